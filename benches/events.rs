@@ -50,7 +50,7 @@ pub(crate) fn frames(bytes: &[u8]) -> Result<Tally> {
     let mut parser = StoredParser::new(0);
     let mut rest = bytes;
     for _ in 0..u64::MAX {
-        match parser.next_for::<Tally>(rest, true) {
+        match parser.next_for::<Tally, false>(rest, true) {
             NextFrame::Parsed { frame, consumed } => {
                 tally.add(see_frame(&frame));
                 if frame.kind() == FrameKind::End {

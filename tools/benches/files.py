@@ -30,8 +30,8 @@ from modules import custom, listed, module, section, text
 
 RUNS = 7
 MEGABYTE = 1_000_000
-# How many files processes share, and how many each takes at a time.
-FILES, AT_ONCE = 10_000, 200
+# How many files processes share, and how large they are.
+FILES, SHARED = 10_000, 0.004
 # The tasks that are scaled. The first ones may hold this many KiB more of a larger file; the others hold a section that they show.
 SCALED, FREE, MORE = ("list", "strip", "dump", "check"), 2, 1024
 
@@ -142,26 +142,26 @@ def tasks(path, out="", ruler=None):
     yield "strip", [[ours, "strip", path], *others(["cat"], ["wasm-strip", path, "-o", out], ["llvm-strip", path, "-o", out])]
 
 
-def timed(words, path, out):
-    """The processor time and the wall time of a command in milliseconds, and whether it fails."""
-    with open(path, "rb") as data, open(out + ".text", "wb") as text_out:
+def timed(words, path, text):
+    """The processor time and the wall time of a command that writes to a file, in milliseconds, and whether it fails."""
+    with open(path, "rb") as data, open(text, "wb") as text_out:
         start = time.perf_counter()
         process = subprocess.Popen(words, stdin=data, stdout=text_out, stderr=subprocess.DEVNULL)
         _, status, used = os.wait4(process.pid, 0)
     return 1000 * (used.ru_utime + used.ru_stime), 1000 * (time.perf_counter() - start), status
 
 
-def instructions(words, path, out):
+def instructions(words, path, profile):
     """The millions of instructions of a command, by callgrind, and whether it fails."""
     with open(path, "rb") as data:
-        valgrind = ["valgrind", "--tool=callgrind", "--callgrind-out-file=" + out + ".profile", *words]
+        valgrind = ["valgrind", "--tool=callgrind", "--callgrind-out-file=" + profile, *words]
         done = subprocess.run(valgrind, stdin=data, stdout=subprocess.DEVNULL, stderr=subprocess.PIPE)
     return int(re.search(rb"Collected : (\d+)", done.stderr)[1]) / 1e6, done.returncode
 
 
 def measured(commands, path, out, counts):
     """Of each command a cell: the least of what the rounds measure, or that it refuses the file."""
-    rounds = [[(instructions if counts else timed)(words, path, out) for words in commands] for _ in range(1 if counts else RUNS)]
+    rounds = [[(instructions if counts else timed)(words, path, out + ".text") for words in commands] for _ in range(1 if counts else RUNS)]
     for tried in zip(*rounds):
         *figures, statuses = zip(*tried)
         yield "refuses the file" if any(statuses) else " / ".join("%.1f" % min(figure) for figure in figures)
@@ -243,18 +243,24 @@ def growth(given, unit, folder):
 
 
 def gain(folder):
-    """A table of how long 1 to 4 processes take for many files."""
-    paths = [common.write(os.path.join(folder, "%05d.wasm" % number), linked(0.001)) for number in range(FILES)]
+    """A table of how long 1 to 4 processes take for a share of many files each, next to sha256sum, which shows what the machine gives.
+
+    What they write is dropped, or goes to one file, to which one writes at a time."""
+    data, dump = linked(SHARED), [program("pulleynavy"), "dump"]
+    paths = [common.write(os.path.join(folder, "%05d.wasm" % number), data) for number in range(FILES)]
     listed = common.write(os.path.join(folder, "paths"), "\0".join(paths))
+    ways = {"dump": (dump, os.devnull), "dump to one file": (dump, os.path.join(folder, "text")), "sha256sum": (["sha256sum"], os.devnull)}
     print()
-    tables.print_head("Processes", "Wall time, s", "Efficiency")
+    tables.print_head("Processes", *(way + ": " + cell for way in ways for cell in ("wall time, s", "efficiency")))
     least = {}
-    for jobs in RUNS * tuple(range(1, 5)):
-        words = ["xargs", "-0", "-a", listed, "-P", str(jobs), "-n", str(AT_ONCE), program("pulleynavy"), "dump"]
-        _, took, _ = timed(words, os.devnull, os.path.join(folder, "out"))
-        least[jobs] = min(took, least.get(jobs, took))
-    for jobs, took in least.items():
-        tables.print_row(["%d" % jobs, "%.2f" % (took / 1000), "%.2f" % (least[1] / took / jobs)])
+    for jobs, way in RUNS * [(jobs, way) for jobs in range(1, 5) for way in ways]:
+        words, text = ways[way]
+        share = ["xargs", "-0", "-a", listed, "-P", str(jobs), "-s", "1000000", "-n", str(-(-FILES // jobs)), *words]
+        _, took, _ = timed(share, os.devnull, text)
+        least[jobs, way] = min(took, least.get((jobs, way), took))
+    for jobs in range(1, 5):
+        cells = [("%.2f" % (least[jobs, way] / 1000), "%.2f" % (least[1, way] / least[jobs, way] / jobs)) for way in ways]
+        tables.print_row(["%d" % jobs, *(cell for pair in cells for cell in pair)])
 
 
 def scaling():

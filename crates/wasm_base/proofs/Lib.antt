@@ -1,3 +1,4 @@
+pub mod Ascii
 pub mod Announced
 pub mod EveryFeature
 pub mod InnerLists

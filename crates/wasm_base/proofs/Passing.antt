@@ -5,13 +5,13 @@ use Rattle.std.proofs.lemmas.List.{length-take-le}
 use Rattle.std.specs.Str.{is_utf8}
 use Rattle.wasm_base.proofs.Texts.{after_read, text_steps}
 use Rattle.wasm_base.specs.FaultAt.{at_offset}
-use Rattle.wasm_base.specs.Name.{bytes_at, is_above, name_limit, text_at}
+use Rattle.wasm_base.specs.Name.{is_above, name_limit, text_at}
 use Rattle.wasm_base.specs.Number.{unsigned_at}
 use Rattle.wasm_base.specs.Outcome.{Outcome, ◌>>=◌}
 use Rattle.wasm_base.specs.Skip.{skipped_at, skipped_name_at}
 use Rattle.wasm_base.specs.TextOf.{text_of}
 use Rattle.wasm_base.specs.Window.{Place, advanced}
-use Rattle.wasm_base.specs.declared.fault.Fault.TheVariants.{StringSize, UnexpectedEof, MalformedUtf8}
+use Rattle.wasm_base.specs.declared.fault.Fault.TheVariants.{StringSize}
 use Rattle.wasm_base.specs.declared.fault.NumberKind.TheVariants.{VarU32}
 
 -- the value and the place of an outcome, or a default if it is a fault

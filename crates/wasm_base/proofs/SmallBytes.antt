@@ -3,7 +3,7 @@ use Rattle.std.proofs.Common.{◌≡◌, ◌≢◌, ℕ, zero, suc, ◌+◌, ◌
 use Rattle.std.proofs.Common.{◌∷◌, map, length, take, replicate, refl, sym, ap, ◌∙◌, arith, eqb-true, eq-eqb, leb-false, leb-true}
 use Rattle.std.specs.Prelude.{All}
 use Rattle.std.proofs.lemmas.Simd.{length-zip2, mask_l-mod, trailing_mask_l, leading_from_mask_l}
-use Rattle.std.proofs.lemmas.List.{length-map}
+use Rattle.std.proofs.lemmas.List.{length-map, length-replicate}
 use Rattle.wasm_base.specs.SmallBytes.{is_large, continuation_bytes, small_prefix}
 use lib.Count.{count_trailing_zeros}
 use lib.Lanes.{zip2, mask_l, top}
@@ -27,11 +27,13 @@ lanes_are : (xs : List ℕ) → lanes (length xs) xs ≡ continuation_bytes xs
 lanes_are [] = refl
 lanes_are (x ∷ xs) = rw (top_of_lane x) (ap (λ n. cond (is_large x) 1 0 + 2 * n) (lanes_are xs))
 
--- what the comparison of 32 bytes with 128 says
-pub lanes_of_32 : (xs : List ℕ) → length xs ≡ 32 → lanes 32 xs % 2 ^ 64 ≡ continuation_bytes xs
-lanes_of_32 xs long =
-    let small : lanes 32 xs % 2 ^ 64 ≡ lanes 32 xs = mask_l-mod _ 64
-    (omega (arith, length-map (zip2 lane (replicate 32 128) xs) (top 7), length-zip2 lane (replicate 32 128) xs (sym long))) in
+-- what the comparison of n bytes with 128 says
+pub lanes_of : (n : ℕ) (xs : List ℕ) → n ≤ 64 → length xs ≡ n → lanes n xs % 2 ^ 64 ≡ continuation_bytes xs
+lanes_of n xs few long =
+    let most : List ℕ = replicate n 128 in
+    let same : length most ≡ n = length-replicate {A = ℕ} n 128 in
+    let small : lanes n xs % 2 ^ 64 ≡ lanes n xs = mask_l-mod _ 64
+    (omega (arith, length-map (zip2 lane most xs) (top 7), length-zip2 lane most xs (same ∙ sym long), same)) in
     small ∙ ap (λ n. lanes n xs) (sym long) ∙ lanes_are xs
 
 bit : (x : ℕ) → (◌≡◌ {A = ℕ} (cond (is_large x) 1 0) 0) ↔ (x < 128)

@@ -1,8 +1,8 @@
 -- A loop over the items of a section.
-use Rattle.std.proofs.Common.{◌<◌, Option, ◌≡◌, ℕ, zero, suc, true, false, List, [], ◌∷◌, length, Some, Result, Ok, Err, refl, arith}
+use Rattle.std.proofs.Common.{Option, ◌≡◌, ℕ, zero, suc, true, false, [], ◌∷◌, length, Some, Result, Ok, Err, refl, arith}
 use Rattle.std.specs.Prelude.{nat_lt}
 use Rattle.std.proofs.lemmas.Bool.{lt-ltb}
-use Rattle.wasm_base.specs.FaultAt.{FaultAt, fault_at}
+use Rattle.wasm_base.specs.FaultAt.{fault_at}
 use Rattle.wasm_base.specs.Outcome.{Outcome}
 use Rattle.wasm_base.specs.Owned.{UnlessMemory}
 use Rattle.wasm_base.specs.Section.{Items, NextItem, NextItemIn, ReadsItem, ItemsOf, WalksTo}

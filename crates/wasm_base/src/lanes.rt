@@ -1,4 +1,4 @@
-// Bytes below 128, looked at 32 at once: each is a number in LEB128 of one byte.
+// Bytes below 128, looked at up to 32 at once: each is a number in LEB128 of one byte, and ASCII.
 ghost use Rattle.std.specs.Prelude.{◌≡◌, ◌<◌, ◌≤◌, ◌↔◌, IsTrue, All};
 ghost use Rattle.wasm_base.specs.SmallBytes.{continuation_bytes, small_prefix};
 
@@ -9,17 +9,19 @@ pub(crate) const LANES: usize = 32;
 
 // A bit for each byte of 128 or more, that of the first byte the lowest.
 #[inline(always)]
-fn continuation_bytes(bytes: u8x32) -> u64
-    ensures { result ≡ continuation_bytes bytes }
+fn continuation_bytes<const N: usize>(bytes: Simd<u8, N>) -> u64
+    requires { N ≤ 64 }
+    ensures { result ≡ continuation_bytes bytes.entry }
 {
-    bytes.simd_ge(u8x32::splat(128)).to_bitmask()
+    bytes.simd_ge(Simd::splat(128)).to_bitmask()
 }
 
 /// Whether all bytes are below 128.
 #[inline(always)]
-pub(crate) fn are_below_128(bytes: u8x32) -> bool
-    // Proved: the test of 32 bytes at a time is true exactly if all are below 128
-    ensures { IsTrue result ↔ All (λ b. b < 128) bytes }
+pub(crate) fn are_below_128<const N: usize>(bytes: Simd<u8, N>) -> bool
+    requires { N ≤ 64 }
+    // Proved: the test of up to 64 bytes at a time is true exactly if all are below 128
+    ensures { IsTrue result ↔ All (λ b. b < 128) bytes.entry }
 {
     continuation_bytes(bytes) == 0
 }

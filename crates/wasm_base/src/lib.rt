@@ -23,6 +23,7 @@ mod owned;
 mod reader;
 mod section;
 mod subsections;
+mod utf8;
 
 pub use ascending::in_order;
 pub use ending::expect_end;

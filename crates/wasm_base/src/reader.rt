@@ -1,6 +1,6 @@
 // A reader of bytes that knows where they are in the whole stream.
 ghost use Rattle.std.specs.Fn.{FnOnceReturnsAtMut};
-ghost use Rattle.std.specs.Prelude.{⊤, ◌≡◌, ◌+◌, ◌<◌, ◌≤◌, ◌^◌, ◌==◌, ◌↔◌, IsTrue, IfOk, OnOk, OnErr, Some, None, length, true};
+ghost use Rattle.std.specs.Prelude.{IsUtf8, ⊤, ◌≡◌, ◌+◌, ◌<◌, ◌≤◌, ◌^◌, ◌==◌, ◌↔◌, IsTrue, IfOk, OnOk, OnErr, Some, None, length, true};
 ghost use Rattle.wasm_base.specs.FaultAt.{fault_at, at_offset, hint_of};
 ghost use Rattle.wasm_base.specs.Features.{feature_bits, takes_wide_limits, all_features};
 ghost use Rattle.wasm_base.specs.Float.{bits_of_32, bits_of_64, u64_at};
@@ -27,6 +27,7 @@ use crate::item::FromReader;
 use crate::lanes::{LANES, are_below_128, single_byte_run};
 use crate::limits::MAX_WASM_STRING_SIZE;
 use crate::number::{Found, number_in, signed_of};
+use crate::utf8::is_utf8;
 use bitflags::Flags;
 use std::alloc::AllocError;
 use std::marker::Model;
@@ -747,6 +748,55 @@ impl<'a> BinaryReader<'a> {
             return Err(Error::new(Fault::StringSize, self.last_offset()));
         }
         self.read_text(size)
+    }
+
+    // Reads `len` bytes of text, after their size, of which no `&str` is needed.
+    #[tactic(auto, unfolding(crate::specs::TextOf::text_of), using(crate::proofs::Texts::text_test))]
+    #[inline(always)]
+    fn read_text_bytes(&mut self, len: usize) -> Result<&'a [u8]>
+        requires { 0 < (place self.old).offset }
+        ensures gives { GivesBy (λ text. text.now) result self.old self.new (text_of len) }
+        ensures keeps { KeepsWindow self.old self.new }
+        ensures hints { Hints (missing_at len (place self.old)) result }
+        ensures memory { NotOutOfMemory result }
+        ensures text { IfOk result (λ text. IsUtf8 text.now) }
+    {
+        let bytes = self.read_bytes(len)?;
+        if is_utf8(bytes) {
+            Ok(bytes)
+        } else {
+            Err(Error::new(Fault::MalformedUtf8, self.last_offset()))
+        }
+    }
+
+    /// Reads a name, as `read_string` does, and returns its bytes. This is cheaper: `std` makes a `&str` only of bytes that
+    /// it looks at one after the other.
+    ///
+    /// # Errors
+    ///
+    /// Those of `read_string`.
+    ///
+    /// ```rattle
+    /// let mut reader = BinaryReader::new(b"\x02ab", 0);
+    /// assert_eq!(rt; reader.read_string_bytes()?, b"ab".as_slice());
+    /// ```
+    ///
+    /// (Core specification, Binary format, Values, Names.)
+    #[tactic(auto, using(crate::proofs::Texts::text_steps))]
+    #[inline(always)]
+    pub fn read_string_bytes(&mut self) -> Result<&'a [u8]>
+        ensures gives { GivesBy (λ text. text.now) result self.old self.new (text_at (Some name_limit)) }
+        ensures keeps { KeepsWindow self.old self.new }
+        ensures hints { Hints (missing_of_sized (place self.old)) result }
+        ensures memory { NotOutOfMemory result }
+        // Proved: the bytes of a name that was read are UTF-8
+        ensures text { IfOk result (λ text. IsUtf8 text.now) }
+    {
+        let len = self.read_var_u32()? as usize;
+        if len > MAX_WASM_STRING_SIZE {
+            return Err(Error::new(Fault::StringSize, self.last_offset()));
+        }
+        self.read_text_bytes(len)
     }
 
     /// Skips a name: a size of at most 100,000 and that many bytes, which need not be UTF-8.

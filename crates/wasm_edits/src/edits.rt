@@ -4,7 +4,7 @@ ghost use Rattle.wasm_edits.specs.Edits.{CanBeMade, CanBeWritten, added_by, fate
 ghost use Rattle.wasm_frames.specs.SkipNext.{head_is};
 
 use crate::encoding::NewSection;
-use crate::fates::{Keep, stays};
+use crate::fates::{Keep, is_kept};
 use wasm_frames::{Frame, FrameKind, PartHead};
 
 /// A change of the custom sections of a stream. Edits in a slice happen in turn: a later one also changes the sections
@@ -82,15 +82,15 @@ pub fn all_fit(edits: &[Edit<'_>]) -> bool
 
 // Returns whether two names are equal. Out of line, so that it costs nothing where no name is compared.
 #[inline(never)]
-fn is_same(name: &str, other: &str) -> bool
+fn is_same(name: &[u8], other: &str) -> bool
     ensures { result ≡ bytes_eq name.now other.now }
 {
-    name == other
+    name == other.as_bytes()
 }
 
 /// Returns what becomes of a custom section with this name.
 #[inline(always)]
-pub(crate) fn fate_by<'a>(edits: &[Edit<'a>], name: &str) -> Fate<'a>
+pub(crate) fn fate_by<'a>(edits: &[Edit<'a>], name: &[u8]) -> Fate<'a>
     // Proved: what becomes of a custom section: the first edit that removes it decides, else the last one that replaces
     //   it; a section that an edit appends is changed by the later ones alone [`fate_by`, `added_by`, both private]
     ensures is { result ≡ fate_by edits.now name.now }
@@ -100,7 +100,7 @@ pub(crate) fn fate_by<'a>(edits: &[Edit<'a>], name: &str) -> Fate<'a>
     for edit in edits {
         match *edit {
             Edit::Keep(keep) => {
-                if !stays(name, keep) {
+                if !is_kept(name, keep) {
                     return Fate::Goes;
                 }
             }
@@ -127,7 +127,7 @@ pub(crate) fn frame_fate<'a>(edits: &[Edit<'a>], frame: &Frame<'_>) -> Fate<'a>
     ensures fits { All CanBeMade edits.now → CanBeWritten result }
 {
     match frame.kind() {
-        FrameKind::Custom => fate_by(edits, frame.name()),
+        FrameKind::Custom => fate_by(edits, frame.name_bytes()),
         _ => Fate::Stays,
     }
 }
@@ -138,7 +138,7 @@ pub(crate) fn head_fate<'a>(edits: &[Edit<'a>], head: &PartHead<'_>) -> Fate<'a>
     ensures fits { All CanBeMade edits.now → CanBeWritten result }
 {
     match head {
-        PartHead::Custom { name, .. } => fate_by(edits, name),
+        PartHead::Custom { name, .. } => fate_by(edits, name.as_bytes()),
         _ => Fate::Stays,
     }
 }
@@ -150,7 +150,7 @@ pub(crate) fn added_by<'a>(edit: &Edit<'a>, later: &[Edit<'a>]) -> Fate<'a>
     ensures fits { CanBeWritten result }
 {
     match *edit {
-        Edit::Append(section) => match fate_by(later, section.name) {
+        Edit::Append(section) => match fate_by(later, section.name.as_bytes()) {
             Fate::Stays => Fate::Becomes(section),
             other => other,
         },

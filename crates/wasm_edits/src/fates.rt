@@ -41,11 +41,11 @@ impl Keep<'_> {
 
 // Whether a name is one of these.
 #[tactic(auto, using(std::proofs::lemmas::List::Folds::list_any_more, std::proofs::lemmas::List::Folds::list_any_at))]
-fn is_among(name: &str, names: &[&str]) -> bool
+fn is_among(name: &[u8], names: &[&str]) -> bool
     ensures { result ≡ is_one_of name.now names.now }
 {
     for one in names {
-        if name == *one {
+        if name == one.as_bytes() {
             return true;
         }
     }
@@ -53,10 +53,19 @@ fn is_among(name: &str, names: &[&str]) -> bool
 }
 
 // Whether a custom section stays because others are to be removed.
-fn is_other(name: &str, removed: &[&str]) -> bool
+fn is_other(name: &[u8], removed: &[&str]) -> bool
     ensures { result ≡ others_stay removed.now name.now }
 {
     !removed.is_empty() && !is_among(name, removed)
+}
+
+/// Returns whether a custom section stays whose name has these bytes.
+pub(crate) fn is_kept(name: &[u8], keep: Keep<'_>) -> bool
+    ensures { result ≡ stays_by keep.entry name.now }
+{
+    is_among(name, keep.kept)
+        || is_other(name, keep.removed)
+        || keep.names && name == b"name".as_slice()
 }
 
 /// Returns whether a custom section with this name stays.
@@ -64,5 +73,5 @@ pub fn stays(name: &str, keep: Keep<'_>) -> bool
     // Proved: a custom section stays if its name is chosen
     ensures { result ≡ stays_by keep.entry name.now }
 {
-    is_among(name, keep.kept) || is_other(name, keep.removed) || keep.names && name == "name"
+    is_kept(name.as_bytes(), keep)
 }

@@ -474,9 +474,9 @@ fn parse_next_for<'a, For, const ARE_STORED: bool>(
     ensures items { StepBegins result }
 {
     let step = if ARE_STORED {
-        next_stored_for::<For>(cursor, bytes)
+        next_stored_for::<For, true>(cursor, bytes)
     } else {
-        next_frame_for::<For>(cursor, bytes)
+        next_frame_for::<For, true>(cursor, bytes)
     };
     match step {
         FrameStep::Parsed { frame, bytes } => match frame.kind() {

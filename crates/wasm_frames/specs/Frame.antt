@@ -1,5 +1,6 @@
 -- A frame is its report.
-use Rattle.std.specs.Prelude.{◌≡◌, ℕ, ◌+◌, List, [], length, Ok}
+use Rattle.std.specs.Prelude.{◌≡◌, ℕ, ◌+◌, List, [], length, Option, IfSome, Ok}
+use Rattle.std.specs.Str.{IsUtf8}
 use Rattle.std.specs.declared.ops.Range.{Range}
 use Rattle.wasm_base.specs.Number.{unsigned_at}
 use Rattle.wasm_base.specs.Window.{Window, Place, place, range_of}
@@ -16,6 +17,11 @@ use Rattle.wasm_grammar.specs.declared.encoding.Encoding.TheVariants.{Module}
 -- the window that a reader reads, from its first byte
 abbrev pub unread : Window → Window
 unread w = record w { position = 0 }
+
+-- A name is UTF-8, and its text, if it is kept too, has its bytes.
+pub record IsName (bytes : List ℕ) (text : Option (List ℕ)) : Type 0 where
+  pub utf8 : IsUtf8 bytes
+  pub same : IfSome text (λ kept. kept ≡ bytes)
 
 -- the fields of a frame
 pub record Fields : Type 0 where

@@ -6,6 +6,7 @@ ghost use Rattle.wasm_grammar.specs.Content.{ended};
 ghost use Rattle.wasm_grammar.specs.Reading.{version, start_section, data_count_section, code_start, code_entry, stream_end};
 
 use crate::kind::FrameKind;
+use crate::name::Name;
 use std::marker::Model;
 use std::ops::Range;
 use wasm_base::BinaryReader;
@@ -24,7 +25,7 @@ pub struct Frame<'a> {
     start: u64,
     end: u64,
     reader: BinaryReader<'a>,
-    name: &'a str,
+    name: Name<'a>,
     id: u8,
     encoding: Encoding,
     version: u16,
@@ -43,7 +44,7 @@ impl<'a> Model for Frame<'a> {
       start = f.start;
       end = f.end;
       reader = f.reader;
-      name = f.name.now;
+      name = f.name;
       id = f.id;
       encoding = f.encoding;
       version = f.version;
@@ -56,7 +57,7 @@ impl<'a> Model for Frame<'a> {
       start = f.start;
       end = f.end;
       reader = f.reader;
-      name = f.name.now;
+      name = f.name;
       id = f.id;
       encoding = f.encoding;
       version = f.version;
@@ -82,7 +83,7 @@ impl<'a> Frame<'a> {
             start,
             end,
             reader: no_bytes(),
-            name: "",
+            name: Name::none(),
             id: 0,
             encoding,
             version: num,
@@ -103,7 +104,7 @@ impl<'a> Frame<'a> {
             start,
             end,
             reader,
-            name: "",
+            name: Name::none(),
             id,
             encoding: Encoding::Module,
             version: 0,
@@ -121,7 +122,7 @@ impl<'a> Frame<'a> {
             start: range.start,
             end: range.end,
             reader: no_bytes(),
-            name: "",
+            name: Name::none(),
             id: START_SECTION,
             encoding: Encoding::Module,
             version: 0,
@@ -139,7 +140,7 @@ impl<'a> Frame<'a> {
             start: range.start,
             end: range.end,
             reader: no_bytes(),
-            name: "",
+            name: Name::none(),
             id: DATA_COUNT_SECTION,
             encoding: Encoding::Module,
             version: 0,
@@ -158,7 +159,7 @@ impl<'a> Frame<'a> {
             start: range.start,
             end: range.end,
             reader: no_bytes(),
-            name: "",
+            name: Name::none(),
             id: CODE_SECTION,
             encoding: Encoding::Module,
             version: 0,
@@ -178,7 +179,7 @@ impl<'a> Frame<'a> {
             start,
             end,
             reader,
-            name: "",
+            name: Name::none(),
             id: CODE_SECTION,
             encoding: Encoding::Module,
             version: 0,
@@ -189,8 +190,8 @@ impl<'a> Frame<'a> {
 
     /// Returns a custom section whose content is this window, of which the name was read.
     #[inline(always)]
-    pub(crate) fn custom(name: &'a str, reader: BinaryReader<'a>) -> Self
-        ensures { result ≡ custom_in name.now reader.entry }
+    pub(crate) fn custom(name: Name<'a>, reader: BinaryReader<'a>) -> Self
+        ensures { result ≡ custom_in name.entry reader.entry }
     {
         let Range { start, end } = reader.range();
         Frame {
@@ -218,7 +219,7 @@ impl<'a> Frame<'a> {
             start,
             end,
             reader,
-            name: "",
+            name: Name::none(),
             id,
             encoding: Encoding::Module,
             version: 0,
@@ -236,7 +237,7 @@ impl<'a> Frame<'a> {
             start: offset,
             end: offset,
             reader: no_bytes(),
-            name: "",
+            name: Name::none(),
             id: 0,
             encoding: Encoding::Module,
             version: 0,
@@ -297,12 +298,21 @@ impl<'a> Frame<'a> {
         self.size
     }
 
-    /// Returns the name of a custom section, otherwise an empty one.
+    /// Returns the name of a custom section, otherwise an empty one. It is checked here if the parser did not read it as
+    /// text.
     #[inline(always)]
     pub fn name(&self) -> &'a str
         ensures { result.now ≡ name_in self.now }
     {
-        self.name
+        self.name.text()
+    }
+
+    /// Returns the bytes of the name of a custom section, otherwise none.
+    #[inline(always)]
+    pub fn name_bytes(&self) -> &'a [u8]
+        ensures { result.now ≡ name_in self.now }
+    {
+        self.name.bytes()
     }
 
     /// Returns the offsets of the content of a section or body, or of a header or the end, in bytes from the start of the

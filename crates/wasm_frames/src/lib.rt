@@ -14,6 +14,7 @@ mod checkpoint;
 mod frame;
 mod kind;
 pub mod laws;
+mod name;
 mod next;
 mod parser;
 mod parts;

@@ -60,7 +60,7 @@ impl StoredParser {
     fn next_by_kind<'a>(&mut self, bytes: &'a [u8], eof: bool) -> NextFrame<'a>
         ensures { GivesFrame (parser_of self.old) eof bytes.now result (parser_of self.new) }
     {
-        match self.next_for::<Frame<'_>>(bytes, eof) {
+        match self.next_for::<Frame<'_>, false>(bytes, eof) {
             NextFrame::Parsed { frame, consumed } => match frame.kind() {
                 FrameKind::Body => return NextFrame::Parsed { frame, consumed },
                 FrameKind::Custom => return NextFrame::Parsed { frame, consumed },
@@ -72,15 +72,20 @@ impl StoredParser {
         }
     }
 
-    /// Does what `next` does. `For` is what the caller makes of a frame, as for `next_settled`.
+    /// Does what `next` does. `For` is what the caller makes of a frame, and `AS_TEXT` whether it needs names as text, as
+    /// for `next_settled`.
     #[inline(always)]
-    pub fn next_for<'a, For>(&mut self, bytes: &'a [u8], eof: bool) -> NextFrame<'a>
+    pub fn next_for<'a, For, const AS_TEXT: bool>(
+        &mut self,
+        bytes: &'a [u8],
+        eof: bool,
+    ) -> NextFrame<'a>
         // Proved: `next_for` and `next_settled` return what `next` does, whatever their type is [the
         //   clauses of both (`GivesFrame`)]
         ensures { GivesFrame (parser_of self.old) eof bytes.now result (parser_of self.new) }
     {
         self.settle();
-        self.next_settled::<For>(bytes, eof)
+        self.next_settled::<For, AS_TEXT>(bytes, eof)
     }
 
     /// Does what `next` does, for a parser whose code section ends within the offsets of a stream. That is so after
@@ -88,7 +93,14 @@ impl StoredParser {
     ///
     /// `For` is a type of the caller's, such as what it makes of a frame. So each caller has an instance of this and of
     /// what it calls, which LLVM puts in place: a parser that is called costs up to a half more.
-    pub fn next_settled<'a, For>(&mut self, bytes: &'a [u8], eof: bool) -> NextFrame<'a>
+    ///
+    /// `AS_TEXT` says whether the name of a custom section is read as text, so that `Frame::name` need not check it again.
+    /// Without it a name is checked at less cost.
+    pub fn next_settled<'a, For, const AS_TEXT: bool>(
+        &mut self,
+        bytes: &'a [u8],
+        eof: bool,
+    ) -> NextFrame<'a>
         requires room { self.old.offset + self.old.code_bytes < 2 ^ 64 }
         ensures answers { GivesFrame (numbers_of self.old) eof bytes.now result (numbers_of self.new) }
         ensures room { self.new.offset + self.new.code_bytes < 2 ^ 64 }
@@ -115,7 +127,7 @@ impl StoredParser {
             let read = self.body::<For>(&mut reader);
             return self.given(read, bytes, &reader, eof);
         }
-        self.section::<For>(bytes, &mut reader, eof)
+        self.section::<For, AS_TEXT>(bytes, &mut reader, eof)
     }
 
     // Moves past the frame that was read of these bytes, or refuses. In place, so that each kind of frame is looked at where
@@ -148,7 +160,7 @@ impl StoredParser {
     }
 
     // Reads a section of these bytes, where one may start. Frequent kinds come first, each on its own.
-    fn section<'a, For>(
+    fn section<'a, For, const AS_TEXT: bool>(
         &mut self,
         bytes: &'a [u8],
         reader: &mut BinaryReader<'a>,
@@ -168,7 +180,7 @@ impl StoredParser {
         };
         match head.kind {
             SectionKind::Custom => {
-                let read = whole_custom::<For>(head.id, head.size, reader);
+                let read = whole_custom::<For, AS_TEXT>(head.id, head.size, reader);
                 self.given(read, bytes, reader, eof)
             }
             SectionKind::Unknown => {

@@ -13,6 +13,7 @@ ghost use Rattle.wasm_grammar.specs.KindInCode.{kind_is};
 ghost use Rattle.wasm_grammar.specs.Waiting.{asked_at_section};
 
 use crate::frame::Frame;
+use crate::name::Name;
 use crate::stored::StoredParser;
 use wasm_base::{BinaryReader, Error, Fault, Result};
 use wasm_grammar::{DATA_SECTION, Encoding, MAGIC, SectionKind, section_kind, section_rank};
@@ -186,7 +187,7 @@ pub(crate) fn content<'a, For>(
     ensures { ReadsAll announced (kind_is kind) id end window.entry result }
 {
     match kind {
-        SectionKind::Custom => custom(id, window),
+        SectionKind::Custom => custom::<true>(id, window),
         SectionKind::Items => items::<For>(announced, id, end, window),
         SectionKind::Index => start::<For>(id, window),
         SectionKind::DataCount => data_count::<For>(id, window),
@@ -197,7 +198,7 @@ pub(crate) fn content<'a, For>(
 
 /// Reads the content of a custom section, of this size.
 // Custom and unknown sections are the most frequent ones. So these have a call of their own, without a look at the kind.
-pub(crate) fn whole_custom<'a, For>(
+pub(crate) fn whole_custom<'a, For, const AS_TEXT: bool>(
     id: u8,
     size: u32,
     reader: &mut BinaryReader<'a>,
@@ -205,7 +206,7 @@ pub(crate) fn whole_custom<'a, For>(
     ensures { ReadsWhole custom id size (place reader.old) result (place reader.new) }
 {
     let window = window(size, reader)?;
-    custom(id, window)
+    custom::<AS_TEXT>(id, window)
 }
 
 /// Reads the content of an unknown section, of this size.
@@ -222,11 +223,11 @@ pub(crate) fn whole_unknown<'a, For>(
 
 // Reads the content of a custom section. In place, like `only_u32`.
 #[inline(always)]
-fn custom<'a>(id: u8, mut window: BinaryReader<'a>) -> Result<Frame<'a>>
+fn custom<'a, const AS_TEXT: bool>(id: u8, mut window: BinaryReader<'a>) -> Result<Frame<'a>>
     requires { window.position ≡ 0 }
     ensures { ReadsAnywhere custom id window.entry result }
 {
-    match window.read_string() {
+    match Name::read::<AS_TEXT>(&mut window) {
         Ok(name) => Ok(Frame::custom(name, window)),
         Err(error) => Err(error.without_needed_hint()),
     }

@@ -132,7 +132,7 @@ impl Parser {
         ensures unchanged { IsUnchanged self.old (said result) self.new }
     {
         // Each of the frequent kinds returns on its own, so that its fields go straight to the caller's memory.
-        match self.stored.next_settled::<Parser>(bytes, eof) {
+        match self.stored.next_settled::<Parser, true>(bytes, eof) {
             NextFrame::Parsed { frame, consumed } => match frame.kind() {
                 FrameKind::Body => {
                     return Ok(Chunk::Parsed {

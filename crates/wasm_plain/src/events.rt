@@ -125,7 +125,7 @@ pub(crate) fn frame_event(origin: Origin, frame: &Frame) -> PlainEvent
         FrameKind::Body => event_between(origin, 6, u32::from(CODE_SECTION), start, end),
         FrameKind::Custom => PlainEvent {
             data_offset: frame.data_offset(),
-            name_size: frame.name().len(),
+            name_size: frame.name_bytes().len(),
             ..event_between(origin, 7, u32::from(CUSTOM_SECTION), start, end)
         },
         FrameKind::Unknown => event_between(origin, 8, u32::from(frame.id()), start, end),

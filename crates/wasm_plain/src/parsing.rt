@@ -36,7 +36,7 @@ pub(crate) fn next_event(
         (parser_of parser.new) }
 {
     let offset = parser.offset;
-    match parser.next_for::<PlainEvent>(bytes, is_all) {
+    match parser.next_for::<PlainEvent, false>(bytes, is_all) {
         NextFrame::Parsed { frame, consumed } => {
             let origin = Origin {
                 offset,

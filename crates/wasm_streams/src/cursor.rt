@@ -258,16 +258,20 @@ pub fn next_frame<'a>(cursor: &mut Cursor, bytes: &'a [u8]) -> FrameStep<'a>
     //   (`StepsAt`)]
     ensures { StepsAt cursor.old bytes.now (says result) cursor.new }
 {
-    next_stored_for::<Frame<'_>>(cursor, bytes)
+    next_stored_for::<Frame<'_>, false>(cursor, bytes)
 }
 
-/// Performs the step that `next_frame` does. `For` is what the caller makes of a frame, as for `StoredParser::next_for`.
+/// Performs the step that `next_frame` does. `For` and `AS_TEXT` are those of `StoredParser::next_for`.
 #[inline(always)]
-pub fn next_frame_for<'a, For>(cursor: &mut Cursor, bytes: &'a [u8]) -> FrameStep<'a>
+pub fn next_frame_for<'a, For, const AS_TEXT: bool>(
+    cursor: &mut Cursor,
+    bytes: &'a [u8],
+) -> FrameStep<'a>
     ensures { StepsAt cursor.old bytes.now (says result) cursor.new }
 {
     let rest = after(bytes, cursor.mark);
-    match cursor.parser.next_for::<For>(rest, cursor.is_finished) {
+    let eof = cursor.is_finished;
+    match cursor.parser.next_for::<For, AS_TEXT>(rest, eof) {
         NextFrame::Parsed { frame, consumed } => {
             cursor.wants_more = false;
             cursor.mark += consumed;
@@ -287,10 +291,13 @@ pub fn next_frame_for<'a, For>(cursor: &mut Cursor, bytes: &'a [u8]) -> FrameSte
     }
 }
 
-/// Performs the step that `next_frame_for` does, but does not read a part again while it is not whole. So a part that is
-/// larger than many chunks is read twice, and not at each chunk.
+/// Performs the step that `next_frame_for` does, but once eight bytes of a part are there, it does not read the part again
+/// before all of them are.
 #[inline(always)]
-pub fn next_stored_for<'a, For>(cursor: &mut Cursor, bytes: &'a [u8]) -> FrameStep<'a>
+pub fn next_stored_for<'a, For, const AS_TEXT: bool>(
+    cursor: &mut Cursor,
+    bytes: &'a [u8],
+) -> FrameStep<'a>
     ensures { StepsAt cursor.old bytes.now (says result) cursor.new }
 {
     let rest = after(bytes, cursor.mark);
@@ -299,7 +306,7 @@ pub fn next_stored_for<'a, For>(cursor: &mut Cursor, bytes: &'a [u8]) -> FrameSt
         cursor.wants_more = true;
         return FrameStep::NeedMoreData(missing);
     }
-    match next_frame_for::<For>(cursor, bytes) {
+    match next_frame_for::<For, AS_TEXT>(cursor, bytes) {
         FrameStep::NeedMoreData(hint) => {
             cursor.parser.remember(rest, hint);
             FrameStep::NeedMoreData(hint)

@@ -9,7 +9,7 @@ use std::marker::Model;
 use wasm_base::fits;
 use wasm_frames::{NextFrame, SkippedPart, StoredParser};
 
-/// A part at an offset whose end was missing.
+/// The part at this offset, whose end was missing.
 #[derive(Clone, Copy)]
 pub(crate) struct CutPart {
     pub(crate) offset: u64,
@@ -82,11 +82,15 @@ impl FrameParser {
 
     /// Returns the next frame, as `StoredParser::next_for` does.
     #[inline(always)]
-    pub(crate) fn next_for<'a, For>(&mut self, bytes: &'a [u8], eof: bool) -> NextFrame<'a>
+    pub(crate) fn next_for<'a, For, const AS_TEXT: bool>(
+        &mut self,
+        bytes: &'a [u8],
+        eof: bool,
+    ) -> NextFrame<'a>
         ensures answers { GivesFrame self.old eof bytes.now result self.new }
         ensures consumes { Consumes bytes.now (content_of result) }
     {
-        self.stored.next_for::<For>(bytes, eof)
+        self.stored.next_for::<For, AS_TEXT>(bytes, eof)
     }
 
     /// Returns how many bytes are missing of the part that begins with these, or 0 if that is not known.

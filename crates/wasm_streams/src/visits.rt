@@ -124,7 +124,7 @@ pub fn visit<A: Allocator, R: Source, W, V: Visitor<A, W>>(
             Ok(()) => {}
             Err(_) => return Err(visitor.out_of_memory(output)),
         }
-        match next_frame_for::<(R, W, V)>(&mut cursor, seen(&stored, ahead.bytes())) {
+        match next_frame_for::<(R, W, V), false>(&mut cursor, seen(&stored, ahead.bytes())) {
             FrameStep::Parsed { frame, bytes } => {
                 let is_last = is_end(&frame);
                 visitor.take_part(frame, bytes, output)?;

@@ -46,6 +46,50 @@ fn texts_and_what_is_skipped(rt: HostRuntime) {
     );
 }
 
+// The size of a name and its bytes, all `a` but one, and then more bytes.
+fn name_with(len: u8, place: u8, byte: u8) -> [u8; 71] {
+    let mut stream = [b'a'; 71];
+    stream[0] = len;
+    if let Some(at) = stream.get_mut(usize::from(place) + 1) {
+        *at = byte;
+    }
+    stream
+}
+
+// Names of each length below 70, with another byte at each place, which is ASCII or no character.
+#[test]
+fn bytes_of_names(rt: HostRuntime) {
+    for len in 0..70u8 {
+        for place in 0..len {
+            let ascii = name_with(len, place, 127);
+            let bytes = ascii.get(1..usize::from(len) + 1).unwrap_or(b"");
+            same(&rt, window(&ascii, 0).read_string_bytes(), Ok(bytes));
+            let malformed = Error::new(Fault::MalformedUtf8, u64::from(len));
+            for byte in [128, 0xc3, 0xff] {
+                let stream = name_with(len, place, byte);
+                same(&rt, window(&stream, 0).read_string_bytes(), Err(malformed));
+            }
+        }
+    }
+}
+
+#[test]
+fn bytes_of_a_name(rt: HostRuntime) {
+    let mut reader = window(b"\0\x02\xc3\xa4\x03ab", 0);
+    same(&rt, reader.read_string_bytes(), Ok(b"".as_slice()));
+    same(&rt, reader.read_string_bytes(), Ok(b"\xc3\xa4".as_slice()));
+    let refused = reader.read_string_bytes().err();
+    let facts = refused.map(|error| (error.fault(), error.offset(), error.needed_hint()));
+    same(&rt, facts, Some((Fault::UnexpectedEof, 5, Some(1))));
+    // A size of 100,001.
+    let size = Error::new(Fault::StringSize, 2);
+    same(
+        &rt,
+        window(b"\xa1\x8d\x06", 0).read_string_bytes(),
+        Err(size),
+    );
+}
+
 #[test]
 fn items_of_a_reader(rt: HostRuntime) {
     let mut reader = window(&[1, 2, 0x68, 0x69, 0x85, 1, 0, 3], 9);

@@ -77,7 +77,7 @@ fn frames_of_a_stream_in_a_buffer(rt: HostRuntime) {
 
 // A step that is made for a caller says the same as another, and leaves the cursor at the same place.
 fn step_both(rt: &impl Abort, one: &mut Cursor, other: &mut Cursor, bytes: &[u8]) {
-    let said = told(next_frame_for::<Said>(other, bytes));
+    let said = told(next_frame_for::<Said, true>(other, bytes));
     let place = (other.offset(), other.mark(), other.wants_more());
     steps(rt, one, bytes, said, place);
     same(rt, one.is_finished(), other.is_finished());
@@ -174,7 +174,12 @@ fn frames_for_a_caller(rt: HostRuntime) {
                 assert!(rt; mark <= end);
                 let rest = &PARTS[mark..end];
                 let said = given(one.next(rest, eof));
-                same_at(&rt, given(other.next_for::<Said>(rest, eof)), said, &end);
+                same_at(
+                    &rt,
+                    given(other.next_for::<Said, true>(rest, eof)),
+                    said,
+                    &end,
+                );
                 same_at(&rt, other.offset, one.offset, &end);
                 mark = one.offset.saturating_sub(start) as usize;
             }

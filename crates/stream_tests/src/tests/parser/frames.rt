@@ -1,5 +1,5 @@
 // Frames by their fields, and the parser of frames called again: after a fault, after the end, and at the largest offsets.
-use crate::tests::same;
+use crate::tests::{is_printed, same};
 use std::ops::Range;
 use wasm_base::Fault;
 use wasm_frames::{Frame, FrameKind, NextFrame, StoredParser};
@@ -87,6 +87,57 @@ fn fields_of_one_kind(rt: HostRuntime) {
         &rt,
         (header.version(), header.encoding()),
         (13, Encoding::Component),
+    );
+}
+
+// The name of the section after a header, or the fault: read as text, or not.
+fn names(section: &[u8]) -> [Result<(&str, &[u8]), (Fault, u64)>; 2] {
+    let mut parser = StoredParser::new(0);
+    drop(parser.next(b"\0asm\x01\0\0\0", true));
+    let mut other = parser;
+    [
+        name_in(parser.next_for::<Row, true>(section, true)),
+        name_in(other.next_for::<Row, false>(section, true)),
+    ]
+}
+
+fn name_in(next: NextFrame<'_>) -> Result<(&str, &[u8]), (Fault, u64)> {
+    match next {
+        NextFrame::Parsed { frame, .. } => Ok((frame.name(), frame.name_bytes())),
+        NextFrame::NeedMoreData(_) => Ok(("", b"")),
+        NextFrame::Fault(error) => Err((error.fault(), error.offset())),
+    }
+}
+
+// A name is the same whether the parser reads it as text, and so is the fault of one that is not UTF-8.
+#[test]
+fn names_as_text_or_not(rt: HostRuntime) {
+    let (plain, wide) = (b"\0\x06\x04name!", b"\0\x05\x04a\xe2\x82\xac");
+    for name in names(plain) {
+        same(&rt, name, Ok(("name", b"name".as_slice())));
+    }
+    for name in names(wide) {
+        same(&rt, name, Ok(("a\u{20ac}", b"a\xe2\x82\xac".as_slice())));
+    }
+    for name in names(b"\0\x05\x04\xc3\x28ab") {
+        same(&rt, name, Err((Fault::MalformedUtf8, 14)));
+    }
+    for name in names(b"\x01\x01\0") {
+        same(&rt, name, Ok(("", b"".as_slice())));
+    }
+}
+
+// The name is printed as text.
+#[test]
+fn a_frame_as_text(rt: HostRuntime) {
+    let mut parser = StoredParser::new(0);
+    drop(parser.next(MODULE, true));
+    let (custom, _) = parsed(parser.next(&MODULE[8..], true)).expect(&rt, "no section");
+    is_printed(
+        &rt,
+        rt.alloc(),
+        &custom,
+        "Frame { kind: Custom, start: 10, end: 13, reader: BinaryReader { bytes: [1, 97, 120], start: 10, position: 2, features: WasmFeatures(3) }, name: \"a\", id: 0, encoding: Module, version: 0, count: 0, size: 0 }",
     );
 }
 
