@@ -78,6 +78,15 @@ unknown_option_text word = codes "pulleynavy: unknown option '" ++ (word ++ code
 abbrev pub no_command_text : List ℕ
 no_command_text = codes "usage: pulleynavy COMMAND [OPTION]... [FILE]...\nTry 'pulleynavy --help'.\n"
 
+-- a file that would have to be read twice
+abbrev pub names_text : (name : List ℕ) → List ℕ
+names_text name = codes "pulleynavy dump: --names reads each file twice, and " ++ (name_shown name
+    ++ codes " can be read only once\n")
+
+-- standard input, which more than one operand of `add` names
+abbrev pub input_twice_text : List ℕ
+input_twice_text = about_word verb.Add (codes "'") (codes "-") (codes "' can be read only once")
+
 -- what is wrong with the arguments
 abbrev pub complaint_text : Complaint → List ℕ
 complaint_text (complaint.Argument verb refusal) = refusal_text verb refusal
@@ -93,6 +102,6 @@ complaint_text (complaint.TooLarge verb word) =
 complaint_text (complaint.UnknownCommand word) = unknown_command_text word.now
 complaint_text (complaint.UnknownOption word) = unknown_option_text word.now
 complaint_text complaint.NoCommand = no_command_text
-complaint_text complaint.NamesOfInput =
-    codes "pulleynavy dump: --names reads each file twice, and standard input can't be: name files\n"
+complaint_text (complaint.NamesOf name) = names_text name.now
+complaint_text complaint.InputTwice = input_twice_text
 complaint_text complaint.NotUtf8 = codes "pulleynavy: an argument is not valid UTF-8\n"

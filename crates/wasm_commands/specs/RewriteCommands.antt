@@ -1,5 +1,5 @@
 -- What the commands that write a stream do, by their arguments.
-use Rattle.std.specs.Prelude.{◌≡◌, ◌⊎◌, ℕ, ◌+◌, ◌<◌, ◌^◌, Bool, true, false, ◌||◌, List, [], ◌∷◌, ◌++◌, codes, bytes_eq}
+use Rattle.std.specs.Prelude.{◌≡◌, ◌⊎◌, ℕ, ◌+◌, ◌<◌, ◌^◌, Bool, true, false, ◌==◌, ◌||◌, List, [], ◌∷◌, ◌++◌, codes, bytes_eq}
 use Rattle.std.specs.Prelude.{All, length, nat_lt, Option, Some, None, is_some, map, take, Vec, Result, Ok, Err}
 use Rattle.std.specs.Prelude.{if◌then◌else◌}
 use Rattle.std.specs.Borrow.{Bor}
@@ -26,7 +26,7 @@ use Rattle.wasm_console.specs.Devices.{IsUntouched}
 use Rattle.wasm_console.specs.Strips.{Refuses}
 use Rattle.wasm_commands.specs.ArgumentLists.{Read, has_option, is_equals, last_value, operands_in, values_in}
 use Rattle.wasm_commands.specs.Finding.{FindsSection}
-use Rattle.wasm_commands.specs.Messages.{about_word, command_text, missing_text}
+use Rattle.wasm_commands.specs.Messages.{about_word, command_text, input_twice_text, missing_text}
 use Rattle.wasm_commands.specs.Parsing.{texts}
 use Rattle.wasm_commands.specs.Rewrites.{CannotHold, CannotOpen, ChangesFile, EndsRun, Gave, IsOriginal, WritesBytesTo}
 use Rattle.wasm_commands.specs.Rewrites.{WritesTo}
@@ -100,6 +100,16 @@ added_in word = (before_first is_equals word, after_first is_equals word)
 abbrev pub no_addition : (words : List (List ℕ)) → Option (List ℕ)
 no_addition [] = None
 no_addition (word ∷ words) = if is_addition word then no_addition words else Some word
+
+-- whether a file is standard input
+abbrev pub is_input : (file : List ℕ) → Bool
+is_input file = bytes_eq file (codes "-")
+
+-- whether standard input is among the files of these additions twice, or once more if it was asked for already
+abbrev pub is_asked_again : (asked : Bool) → (additions : List (List ℕ × List ℕ)) → Bool
+is_asked_again asked [] = false
+is_asked_again true (addition ∷ additions) = if is_input addition.1 then true else is_asked_again true additions
+is_asked_again false (addition ∷ additions) = is_asked_again (is_input addition.1) additions
 
 -- a name and a file, or a name and the data of that file
 abbrev pub parts_of : Addition → List ℕ × List ℕ
@@ -199,10 +209,19 @@ abbrev pub is_field : (field : List ℕ) → Bool
 is_field field = bytes_eq field (codes "language")
     || (bytes_eq field (codes "processed-by") || bytes_eq field (codes "sdk"))
 
--- whether a word is a value of `--set`: it has an `=`, and before that the name of a field
+abbrev pub is_colon : ℕ → Bool
+is_colon b = b == 58
+
+-- the name of what is set: from after the `=` to the next colon
+abbrev pub name_set : (word : List ℕ) → List ℕ
+name_set word = before_first is_colon (after_first is_equals word)
+
+-- whether a word is a value of `--set`: it has an `=`, before that the name of a field, and after it a name
 abbrev pub is_setting : (word : List ℕ) → Bool
 is_setting word =
-    if nat_lt (position_or_len is_equals word) (length word) then is_field (before_first is_equals word) else false
+    if nat_lt (position_or_len is_equals word) (length word)
+    then (if is_field (before_first is_equals word) then nat_lt 0 (length (name_set word)) else false)
+    else false
 
 -- the first word that is none
 abbrev pub no_setting : (words : List (List ℕ)) → Option (List ℕ)
@@ -444,9 +463,15 @@ module _ {S I O : Type 0} (calls : SystemOf S I O) (sources : SourceOf I) (sinks
       (CannotLoad calls sources sinks system additions errors status × IsUntouched output)
       ⊎ AddsData additions file status
 
+  -- by whether standard input is asked for more than once
+  abbrev pub AddsOnce : (again : Bool) → (additions : List (List ℕ × List ℕ)) (file : List ℕ) (status : ℕ) → Type 0
+  AddsOnce true additions file status = RefusesWith input_twice_text output errors status
+  AddsOnce false additions file status = AddsAll additions file status
+
   abbrev pub AddsWords : (refused : Option (List ℕ)) → (words : List (List ℕ)) (file : List ℕ) (status : ℕ) → Type 0
   AddsWords (Some word) words file status = RefusesWith (no_data_text word) output errors status
-  AddsWords None words file status = AddsAll (map added_in words) file status
+  AddsWords None words file status =
+      AddsOnce (is_asked_again (is_input file) (map added_in words)) (map added_in words) file status
 
   -- The last operand is the file, and those before it are the sections.
   pub record AddsOperands (operands : List (List ℕ)) (status : ℕ) : Type 0 where

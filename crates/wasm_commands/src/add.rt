@@ -3,7 +3,7 @@ ghost use Rattle.std.specs.Prelude.{false, IfOk, map};
 ghost use Rattle.wasm_commands.specs.ArgumentLists.{has_option};
 ghost use Rattle.wasm_commands.specs.Parsing.{reads_of, texts};
 ghost use Rattle.wasm_commands.specs.declared.options.Flag.TheVariants.{Replace};
-ghost use Rattle.wasm_commands.specs.RewriteCommands.{Adds, AddsAll, AddsBy, AddsHeld, AddsLoaded, AddsRead, AddsSearched, AddsTo, AddsWords, AreAdditions, AreOperands, EachInTurn, IfAdded, IsAdded, IsAddedBy, IsAddition, LoadsAll, Searches, WritesAdded, loaded_parts, no_addition, parts_of};
+ghost use Rattle.wasm_commands.specs.RewriteCommands.{Adds, AddsAll, AddsBy, AddsHeld, AddsLoaded, AddsRead, AddsSearched, AddsTo, AddsWords, AreAdditions, AreOperands, EachInTurn, IfAdded, IsAdded, IsAddedBy, IsAddition, LoadsAll, is_asked_again, is_input, Searches, WritesAdded, loaded_parts, no_addition, parts_of};
 ghost use Rattle.wasm_commands.specs.Systems.{IfAllocated};
 ghost use Rattle.wasm_text.specs.Calls.{device_of, writer_device};
 
@@ -63,6 +63,22 @@ fn parse_additions<'a>(
         rest = more;
     }
     Ok(Ok(additions))
+}
+
+// Returns whether more than one of these files is standard input, which can be read only once.
+fn reads_input_twice(additions: &[Addition<'_>], file: &str) -> bool
+    ensures { result ≡ is_asked_again (is_input file.now) (map parts_of additions.now) }
+{
+    let mut is_asked = file == "-";
+    for addition in additions {
+        if addition.file == "-" {
+            if is_asked {
+                return true;
+            }
+            is_asked = true;
+        }
+    }
+    false
 }
 
 // Reads the data of all sections. Says why if that fails, and returns the exit status.
@@ -490,6 +506,9 @@ fn add_words<S: System, W: Write, E: Sink>(
 {
     match parse_additions(alloc, words) {
         Ok(Ok(additions)) => {
+            if reads_input_twice(&additions, file) {
+                return (Ok(complain(Complaint::InputTwice, errors)), output);
+            }
             add_data(alloc, &additions, file, arguments, system, output, errors)
         }
         Ok(Err(word)) => (Ok(complain(Complaint::NoData(word), errors)), output),

@@ -74,13 +74,17 @@ fn split_at_equals(word: &str) -> Parts<'_>
     }
 }
 
-// Splits an option into its name and its value. A short option has no attached value.
+// Splits an option into its name and its value. Of the short options only `-o` may have its value attached.
 fn split_attached(word: &str) -> Parts<'_>
     ensures name { result.name.now ≡ name_of word.now }
     ensures value { text_if_any result.value ≡ attached_of word.now }
 {
     match word.as_bytes() {
         [b'-', b'-', ..] => split_at_equals(word),
+        [b'-', b'o', _, ..] => Parts {
+            name: "-o",
+            value: word.get(2..),
+        },
         _ => Parts {
             name: word,
             value: None,

@@ -27,7 +27,7 @@ use choices::chosen_by;
 pub use colored::Colored;
 pub use format::Format;
 use format::format_of;
-pub use run::dump_as;
+pub use run::{Titles, dump_as};
 use std::alloc::{AllocError, Global};
 use std::cell::Cell;
 use std::io::Write;
@@ -116,7 +116,8 @@ fn show_input<S: System, R: Source, W: Write, E: Sink>(
         (device_of E.taken E.has_failed errors.old errors.new) result.0 }
     ensures forwards { IsForwarded result.0 result.1.forwarded }
 {
-    let (how, output) = dump_as(alloc, plan.shown, plan.format, names, input, output);
+    let titles = Titles { file: name, names };
+    let (how, output) = dump_as(alloc, plan.shown, plan.format, titles, input, output);
     (report(name, &how, system.causes(), errors), output)
 }
 
@@ -163,6 +164,30 @@ fn show_again<S: System, R: Source, W: Write, E: Sink>(
     }
 }
 
+// Reads an input for the names of its items, then opens its file again to show it, if the file can be read twice. Returns
+// the status, and the output.
+fn show_if_regular<S: System, R: Source, W: Write, E: Sink>(
+    alloc: Global,
+    plan: Plan<'_>,
+    system: &S,
+    name: &str,
+    input: &mut R,
+    output: WriteSink<W>,
+    errors: &mut E,
+) -> (u8, WriteSink<W>)
+    ensures shows { DumpsTwice (FilesOf S.System S.Input.Source system.now) plan.entry name.now
+        (device_of R.remaining R.has_failed input.old input.new)
+        (writer_device W.contents output result.1)
+        (device_of E.taken E.has_failed errors.old errors.new) result.0 }
+    ensures forwards { IsForwarded result.0 result.1.forwarded }
+{
+    if system.is_regular(name) {
+        show_again(alloc, plan, system, name, input, output, errors)
+    } else {
+        (complain(Complaint::NamesOf(name), errors), output)
+    }
+}
+
 // Reads a file for the names of its items, then again to show it. Returns the status, and the output.
 fn show_file_with_names<S: System, W: Write, E: Sink>(
     alloc: Global,
@@ -173,18 +198,18 @@ fn show_file_with_names<S: System, W: Write, E: Sink>(
     errors: &mut E,
 ) -> (u8, WriteSink<W>)
     ensures shows { UsesFile (FilesOf S.System S.Input.Source system.now)
-        (DumpsAgain (FilesOf S.System S.Input.Source system.now) plan.entry name.now) name.now
+        (DumpsTwice (FilesOf S.System S.Input.Source system.now) plan.entry name.now) name.now
         (writer_device W.contents output result.1)
         (device_of E.taken E.has_failed errors.old errors.new) result.0 }
     ensures forwards { IsForwarded result.0 result.1.forwarded }
 {
     match system.open(name) {
-        Ok(mut input) => show_again(alloc, plan, system, name, &mut input, output, errors),
+        Ok(mut input) => show_if_regular(alloc, plan, system, name, &mut input, output, errors),
         Err(cause) => (refuse_file(name, cause, errors), output),
     }
 }
 
-// Shows a file with the names of its items. Standard input can't be read twice.
+// Shows a file with the names of its items. Standard input can't be read twice, so it is not even opened.
 fn show_with_names<S: System, W: Write, E: Sink>(
     alloc: Global,
     plan: Plan<'_>,
@@ -199,7 +224,7 @@ fn show_with_names<S: System, W: Write, E: Sink>(
     ensures forwards { IsForwarded result.0 result.1.forwarded }
 {
     if name == "-" {
-        (complain(Complaint::NamesOfInput, errors), output)
+        (complain(Complaint::NamesOf(name), errors), output)
     } else {
         show_file_with_names(alloc, plan, system, name, output, errors)
     }
@@ -252,7 +277,7 @@ fn show_file<S: System, W: Write, E: Sink>(
     (warn_after(plan, name, status, errors), output)
 }
 
-// Writes the name of a file, then shows it. Returns the status, and the output.
+// Writes the name of a file as a line, then shows it. Returns the status, and the output.
 fn show_under_name<S: System, W: Write, E: Sink>(
     alloc: Global,
     plan: Plan<'_>,
@@ -266,14 +291,35 @@ fn show_under_name<S: System, W: Write, E: Sink>(
         (device_of E.taken E.has_failed errors.old errors.new) result.0 }
     ensures forwards { IsForwarded result.0 result.1.forwarded }
 {
-    let (headed, output) = write_heading(alloc, plan.format.is_json, name, output);
-    match headed {
+    let mut output = output;
+    match write_heading(name, &mut output) {
         Ok(()) => show_file(alloc, plan, system, name, output, errors),
         Err(why) => (refuse_run(name, why, system.causes(), errors), output),
     }
 }
 
-// Shows files, each under its name if there are several; standard input if there are none. Returns the greatest status,
+// Shows one of several files: after its name, unless each object has that. Returns the status, and the output.
+fn show_titled<S: System, W: Write, E: Sink>(
+    alloc: Global,
+    plan: Plan<'_>,
+    system: &S,
+    name: &str,
+    output: WriteSink<W>,
+    errors: &mut E,
+) -> (u8, WriteSink<W>)
+    ensures shows { ShowsTitled plan.entry.format.is_json (FilesOf S.System S.Input.Source system.now)
+        plan.entry name.now (writer_device W.contents output result.1)
+        (device_of E.taken E.has_failed errors.old errors.new) result.0 }
+    ensures forwards { IsForwarded result.0 result.1.forwarded }
+{
+    if plan.format.is_json {
+        show_file(alloc, plan, system, name, output, errors)
+    } else {
+        show_under_name(alloc, plan, system, name, output, errors)
+    }
+}
+
+// Shows files, or standard input if there are none. Returns the greatest status,
 // and the output.
 fn show_files<S: System, W: Write, E: Sink>(
     alloc: Global,
@@ -295,7 +341,7 @@ fn show_files<S: System, W: Write, E: Sink>(
     }
 }
 
-// Shows several files, each under its name. Returns the greatest status, and the output.
+// Shows several files. Returns the greatest status, and the output.
 fn show_several<S: System, W: Write, E: Sink>(
     alloc: Global,
     plan: Plan<'_>,
@@ -304,7 +350,7 @@ fn show_several<S: System, W: Write, E: Sink>(
     output: WriteSink<W>,
     errors: &mut E,
 ) -> (u8, WriteSink<W>)
-    ensures shows { InTurn (ShowsUnderName (FilesOf S.System S.Input.Source system.now) plan.entry)
+    ensures shows { InTurn (ShowsTitled plan.entry.format.is_json (FilesOf S.System S.Input.Source system.now) plan.entry)
         (texts names.now) (writer_device W.contents output result.1)
         (device_of E.taken E.has_failed errors.old errors.new) result.0 }
     ensures forwards { 0 < length names.now → IsForwarded result.0 result.1.forwarded }
@@ -312,7 +358,7 @@ fn show_several<S: System, W: Write, E: Sink>(
     let mut status = 0u8;
     let mut output = output;
     for name in names {
-        let (one, after) = show_under_name(alloc, plan, system, name, output, errors);
+        let (one, after) = show_titled(alloc, plan, system, name, output, errors);
         output = after;
         status = status.max(one);
     }

@@ -177,8 +177,10 @@ pub(crate) enum Complaint<'a> {
     UnknownOption(&'a str),
     /// There is no command.
     NoCommand,
-    /// The names of standard input can't be shown.
-    NamesOfInput,
+    /// The names of a file that can be read only once can't be shown.
+    NamesOf(&'a str),
+    /// Several operands of `add` are standard input.
+    InputTwice,
     /// An argument is not valid UTF-8.
     NotUtf8,
 }
@@ -294,12 +296,17 @@ pub(crate) fn complain<E: Sink>(complaint: Complaint<'_>, errors: &mut E) -> u8
                 b"usage: pulleynavy COMMAND [OPTION]... [FILE]...\nTry 'pulleynavy --help'.\n".as_slice(),
             ],
         ),
-        Complaint::NamesOfInput => say(
+        Complaint::NamesOf(name) => say(
             errors,
             &[
-                b"pulleynavy dump: --names reads each file twice, and standard input can't be: name files\n".as_slice(),
+                b"pulleynavy dump: --names reads each file twice, and ".as_slice(),
+                shown_name(name).as_bytes(),
+                b" can be read only once\n",
             ],
         ),
+        Complaint::InputTwice => {
+            complain_of(Verb::Add, b"'", "-", b"' can be read only once", errors);
+        }
         Complaint::NotUtf8 => say(
             errors,
             &[b"pulleynavy: an argument is not valid UTF-8\n".as_slice()],

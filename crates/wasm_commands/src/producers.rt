@@ -42,7 +42,7 @@ struct Field<'a> {
     values: Vec<ProducersFieldValue<'a>>,
 }
 
-// Parses `FIELD=NAME` or `FIELD=NAME:VERSION`.
+// Parses `FIELD=NAME` or `FIELD=NAME:VERSION`. The name is not empty, and ends at the first colon.
 fn parse_setting(word: &str) -> Option<Setting<'_>>
     ensures { is_some result ≡ is_setting word.now }
 {
@@ -51,6 +51,9 @@ fn parse_setting(word: &str) -> Option<Setting<'_>>
         return None;
     }
     let (name, version) = value.split_once(':').unwrap_or((value, ""));
+    if name.is_empty() {
+        return None;
+    }
     let value = ProducersFieldValue { name, version };
     Some(Setting { field, value })
 }

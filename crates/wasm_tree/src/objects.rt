@@ -61,28 +61,53 @@ fn control_escape(byte: u8) -> [u8; 6]
 /// let wanted = b"{\"level\":1,\"line\":\"import\",\"module\":\"env\",\"index\":5}\n";
 /// assert_eq!(rt; output.written(), wanted.as_slice());
 /// ```
-pub struct Objects<W: Sink> {
+pub struct Objects<'f, W: Sink> {
     output: Output<W>,
     spot: Spot,
     names: Option<ItemNames>,
+    // The name of the file that the objects are about, or nothing.
+    file: &'f str,
 }
 
-impl<W: Sink> Objects<W> {
+impl<'f, W: Sink> Objects<'f, W> {
     /// Creates a tree of objects without names of items. Nothing is written yet.
-    pub fn new(alloc: Global, output: W) -> Objects<W>
+    pub fn new(alloc: Global, output: W) -> Objects<'f, W>
         ensures { objects result ≡ starts_objects (W.taken output) (W.has_failed output) }
     {
         Objects::with_names(alloc, output, None)
     }
 
     /// Creates a tree of objects, with names for items if there are any.
-    pub fn with_names(alloc: Global, output: W, names: Option<ItemNames>) -> Objects<W>
+    pub fn with_names(alloc: Global, output: W, names: Option<ItemNames>) -> Objects<'f, W>
+        ensures { objects result ≡ starts_objects (W.taken output) (W.has_failed output) }
+    {
+        Objects::of_file(alloc, output, names, "")
+    }
+
+    /// Creates a tree of objects about a file, with names for items if there are any. Each object has a member `file`
+    /// with the name of the file, unless the name is empty.
+    ///
+    /// ```rattle
+    /// let mut out = Objects::of_file(alloc, BoundedSink::new(alloc, 1000)?, None, "a.wasm");
+    /// out.line(1, "import");
+    /// out.write_out();
+    /// let output = out.into_output();
+    /// let wanted = b"{\"level\":1,\"file\":\"a.wasm\",\"line\":\"import\"}\n";
+    /// assert_eq!(rt; output.written(), wanted.as_slice());
+    /// ```
+    pub fn of_file(
+        alloc: Global,
+        output: W,
+        names: Option<ItemNames>,
+        file: &'f str,
+    ) -> Objects<'f, W>
         ensures { objects result ≡ starts_objects (W.taken output) (W.has_failed output) }
     {
         Objects {
             output: Output::new(alloc, output),
             spot: Spot::Outside,
             names,
+            file,
         }
     }
 
@@ -95,6 +120,7 @@ impl<W: Sink> Objects<W> {
             output,
             spot: _,
             names: _,
+            file: _,
         } = self;
         output.into_sink()
     }
@@ -219,6 +245,7 @@ impl<W: Sink> Objects<W> {
             offset,
         };
         self.short(&start, Spot::Ended);
+        self.put_file();
     }
 
     // Ends the line, and begins an object with its level.
@@ -227,6 +254,16 @@ impl<W: Sink> Objects<W> {
     {
         self.end();
         self.member("level", Value::Number(level as u64));
+        self.put_file();
+    }
+
+    // Puts the name of the file, if it is known.
+    fn put_file(&mut self)
+        ensures { Adds (objects self.old) (objects self.new) }
+    {
+        if !self.file.is_empty() {
+            self.member("file", Value::Quoted(self.file));
+        }
     }
 
     // Puts the number of an item.
@@ -352,7 +389,7 @@ impl<W: Sink> Objects<W> {
 }
 
 #[tactic(auto, using(crate::proofs::Saying::says_never, crate::proofs::Saying::says_none_ever))]
-impl<W: Sink> Tree for Objects<W> {
+impl<W: Sink> Tree for Objects<'_, W> {
     ghost writing = { λ t. objects t };
 
     ghost found = { λ t. None };
