@@ -23,10 +23,9 @@ use Rattle.wasm_streams.specs.declared.turns.Ended.{Ended}
 use Rattle.wasm_text.specs.declared.devices.ListError.{ListError}
 use Rattle.wasm_edits.specs.declared.fates.Keep.{Keep}
 use Rattle.wasm_console.specs.Devices.{IsUntouched}
-use Rattle.wasm_console.specs.Strips.{Refuses}
 use Rattle.wasm_commands.specs.ArgumentLists.{Read, has_option, is_equals, last_value, operands_in, values_in}
 use Rattle.wasm_commands.specs.Finding.{FindsSection}
-use Rattle.wasm_commands.specs.Messages.{about_word, command_text, input_twice_text, missing_text}
+use Rattle.wasm_commands.specs.Messages.{StopsAt, about_word, command_text, input_twice_text, missing_text}
 use Rattle.wasm_commands.specs.Parsing.{texts}
 use Rattle.wasm_commands.specs.Rewrites.{CannotHold, CannotOpen, ChangesFile, EndsRun, Gave, IsOriginal, WritesBytesTo}
 use Rattle.wasm_commands.specs.Rewrites.{WritesTo}
@@ -281,7 +280,7 @@ module _ {S I O : Type 0} (calls : SystemOf S I O) (sources : SourceOf I) (sinks
       (place section.reader).rest name (target_in reads) output forwarded errors status
   EndsExtract wanted name (Ok None) status =
       (status ≡ 1) × Says errors (missing_text verb.Extract name wanted) × IsUntouched output
-  EndsExtract wanted name (Err e) status = Refuses e errors status × IsUntouched output
+  EndsExtract wanted name (Err e) status = StopsAt name e errors status × IsUntouched output
 
   -- The file was read, and the data of the section written, if it has it before its first fault.
   pub record ExtractsHeld (wanted : List ℕ) (skips : ℕ) (name : List ℕ) (status : ℕ) : Type 0 where
@@ -343,7 +342,7 @@ module _ {S I O : Type 0} (calls : SystemOf S I O) (sources : SourceOf I) (sinks
 
   abbrev pub EndsSetting : (name stream : List ℕ) → Result NewData Error → (status : ℕ) → Type 0
   EndsSetting name stream (Ok change) status = SetsSection name stream change.is_there status
-  EndsSetting name stream (Err e) status = Refuses e errors status × IsUntouched output
+  EndsSetting name stream (Err e) status = StopsAt name e errors status × IsUntouched output
 
   -- The file was read, its first section with producers found, and set.
   pub record SetsHeld (name : List ℕ) (status : ℕ) : Type 0 where
@@ -395,17 +394,17 @@ module _ {S I O : Type 0} (calls : SystemOf S I O) (sources : SourceOf I) (sinks
     pub writes : WritesAdded edits original status
 
   -- The stream has its first fault before one of the sections that are looked for, and this was said.
-  pub record FindsFault (stream : List ℕ) (status : ℕ) : Type 0 where
+  pub record FindsFault (file stream : List ℕ) (status : ℕ) : Type 0 where
     pub name : List ℕ
     pub fault : Error
     pub finds : FindsSection name 0 stream (Err fault)
-    pub refuses : Refuses fault errors status
+    pub refuses : StopsAt file fault errors status
     pub sink : IsUntouched output
 
   -- The sections are added to a stream in memory. Those whose name it has are replaced.
   abbrev pub AddsHeld : (stream : List ℕ) (loaded : List (List ℕ × List ℕ)) (original : Original) (status : ℕ) → Type 0
   AddsHeld stream loaded original status =
-      AddsBy (IsAddedTo stream) loaded original status ⊎ FindsFault stream status
+      AddsBy (IsAddedTo stream) loaded original status ⊎ FindsFault original.name.now stream status
 
 module _ {S I O : Type 0} (calls : SystemOf S I O) (sources : SourceOf I) (sinks : SinkOf O) (system : S)
     (reads : List Read) (output : Device) (forwarded : Bool) (errors : Device) where

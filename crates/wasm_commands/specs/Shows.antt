@@ -41,9 +41,14 @@ pub record DumpsInput (plan : Plan) (name : List ℕ) (input output errors : Dev
   pub answers : status ≡ status_for how
   pub reports : Reports name how causes errors
 
+-- The same, or memory ran out before.
+abbrev pub DumpsIfMemory : Plan → (name : List ℕ) → (input output errors : Device) (status : ℕ) → Type 0
+DumpsIfMemory plan name input output errors status =
+    DumpsInput plan name input output errors status ⊎ StopsForMemory output errors status
+
 -- The file was opened and dumped, or could not be opened.
 abbrev pub DumpsFile : Files → Plan → (name : List ℕ) → (output errors : Device) (status : ℕ) → Type 0
-DumpsFile files plan name output errors status = UsesFile files (DumpsInput plan name) name output errors status
+DumpsFile files plan name output errors status = UsesFile files (DumpsIfMemory plan name) name output errors status
 
 -- An input was read for names, after which the file was opened again and dumped; or memory ran out while it was read.
 abbrev pub DumpsAgain : Files → Plan → (name : List ℕ) → (input output errors : Device) (status : ℕ) → Type 0

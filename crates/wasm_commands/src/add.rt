@@ -9,14 +9,14 @@ ghost use Rattle.wasm_text.specs.Calls.{device_of, writer_device};
 
 use crate::arguments::Arguments;
 use crate::extract::{Wanted, find};
-use crate::messages::{Complaint, complain, refuse_file};
+use crate::messages::{Complaint, complain, refuse_file, report_fault};
 use crate::options::{Flag, Verb};
 use crate::rewriting::{Original, answer, hold, original_of, write_edited};
 use crate::system::System;
 use std::alloc::{AllocError, Global};
 use std::cell::Cell;
 use std::io::Write;
-use wasm_console::{PIECE, report_fault};
+use wasm_console::PIECE;
 use wasm_dumper::{Only, Shown, dump};
 use wasm_feed::{Edit, Ended, ListError, NewSection, Sink, Source, WriteSink, all_fit};
 use wasm_parser::Result as ParserResult;
@@ -224,7 +224,7 @@ fn search<S: System, W: Write, E: Sink>(
         Err(cause) => return (refuse_file(name, cause, errors), output),
     };
     let (how, output) = find_named(alloc, only, found, &mut input, output);
-    (answer(alloc, name, how, system, errors), output)
+    (answer(name, how, system, errors), output)
 }
 
 // Returns the name of the first section that is too large.
@@ -302,7 +302,7 @@ fn add_to_held<'a, S: System, W: Write, E: Sink>(
 {
     match edits_to(alloc, loaded, bytes)? {
         Ok(edits) => Ok(write_added(alloc, &edits, original, arguments, system, output, errors)),
-        Err(error) => Ok(report_fault(alloc, error, errors)),
+        Err(error) => Ok(report_fault(original.name, &error, errors)),
     }
 }
 

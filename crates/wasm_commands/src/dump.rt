@@ -3,7 +3,7 @@ ghost use Rattle.std.specs.Prelude.{◌≡◌, ◌<◌, ◌≤◌, length, IfOk}
 ghost use Rattle.wasm_commands.specs.ArgumentLists.{operands_in};
 ghost use Rattle.wasm_commands.specs.EditsTwice.{dropped};
 ghost use Rattle.wasm_commands.specs.Parsing.{reads_of, texts};
-ghost use Rattle.wasm_commands.specs.Shows.{ChooseFor, Dumps, DumpsAgain, DumpsFile, DumpsInput, DumpsNamed, IsRequest, MayWarn, Shows, ShowsAfter, ShowsFile, ShowsFiles, ShowsIn, ShowsUnderName, Warns, WarnsAfter, words_asked};
+ghost use Rattle.wasm_commands.specs.Shows.{ChooseFor, Dumps, DumpsAgain, DumpsFile, DumpsIfMemory, DumpsNamed, DumpsTwice, IsRequest, MayWarn, Shows, ShowsAfter, ShowsFile, ShowsFiles, ShowsIn, ShowsTitled, ShowsUnderName, Warns, WarnsAfter, words_asked};
 ghost use Rattle.wasm_commands.specs.Systems.{FilesOf, ForwardsIfMemory, InTurn, IsForwarded, RunsIfMemory, UsesFile};
 ghost use Rattle.wasm_text.specs.Calls.{device_of, writer_device};
 
@@ -99,6 +99,15 @@ fn warn_after<E: Sink>(plan: Plan<'_>, name: &str, status: u8, errors: &mut E) -
     status.max(warn_of_unfound(plan, name, errors))
 }
 
+// Returns the name that each JSON object has, if there are objects.
+fn title_of(alloc: Global, is_json: bool, name: &str) -> Result<Option<String>, AllocError> {
+    if is_json {
+        Ok(Some(String::from_str(alloc, name)?))
+    } else {
+        Ok(None)
+    }
+}
+
 // Shows an input, with these names if there are any. Returns the status, and the output.
 fn show_input<S: System, R: Source, W: Write, E: Sink>(
     alloc: Global,
@@ -110,13 +119,16 @@ fn show_input<S: System, R: Source, W: Write, E: Sink>(
     output: WriteSink<W>,
     errors: &mut E,
 ) -> (u8, WriteSink<W>)
-    ensures shows { DumpsInput plan.entry name.now
+    ensures shows { DumpsIfMemory plan.entry name.now
         (device_of R.remaining R.has_failed input.old input.new)
         (writer_device W.contents output result.1)
         (device_of E.taken E.has_failed errors.old errors.new) result.0 }
     ensures forwards { IsForwarded result.0 result.1.forwarded }
 {
-    let titles = Titles { file: name, names };
+    let Ok(file) = title_of(alloc, plan.format.is_json, name) else {
+        return (stop_for_memory(errors), output);
+    };
+    let titles = Titles { file, names };
     let (how, output) = dump_as(alloc, plan.shown, plan.format, titles, input, output);
     (report(name, &how, system.causes(), errors), output)
 }

@@ -12,13 +12,12 @@ ghost use Rattle.wasm_text.specs.Calls.{device_of, writer_device};
 use crate::arguments::Arguments;
 use crate::dump::show;
 use crate::extract::{Wanted, find};
-use crate::messages::{Complaint, complain};
+use crate::messages::{Complaint, complain, report_fault};
 use crate::options::{Flag, Verb};
 use crate::rewriting::{Original, hold, write_edited};
 use crate::system::System;
 use std::alloc::{AllocError, Global};
 use std::io::Write;
-use wasm_console::report_fault;
 use wasm_feed::{Edit, NewSection, Sink, WriteSink, all_fit};
 use wasm_parser::{
     CustomSectionReader, ProducersField, ProducersFieldValue, ProducersSectionReader,
@@ -328,7 +327,7 @@ fn change<S: System, W: Write, E: Sink>(
     };
     let change = match change_of(alloc, &bytes, settings)? {
         Ok(change) => change,
-        Err(error) => return Ok(report_fault(alloc, error, errors)),
+        Err(error) => return Ok(report_fault(name, &error, errors)),
     };
     let original = Original {
         name,

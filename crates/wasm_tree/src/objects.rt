@@ -61,34 +61,35 @@ fn control_escape(byte: u8) -> [u8; 6]
 /// let wanted = b"{\"level\":1,\"line\":\"import\",\"module\":\"env\",\"index\":5}\n";
 /// assert_eq!(rt; output.written(), wanted.as_slice());
 /// ```
-pub struct Objects<'f, W: Sink> {
+pub struct Objects<W: Sink> {
     output: Output<W>,
     spot: Spot,
     names: Option<ItemNames>,
-    // The name of the file that the objects are about, or nothing.
-    file: &'f str,
+    // The name of the file that the objects are about.
+    file: Option<String>,
 }
 
-impl<'f, W: Sink> Objects<'f, W> {
+impl<W: Sink> Objects<W> {
     /// Creates a tree of objects without names of items. Nothing is written yet.
-    pub fn new(alloc: Global, output: W) -> Objects<'f, W>
+    pub fn new(alloc: Global, output: W) -> Objects<W>
         ensures { objects result ≡ starts_objects (W.taken output) (W.has_failed output) }
     {
         Objects::with_names(alloc, output, None)
     }
 
     /// Creates a tree of objects, with names for items if there are any.
-    pub fn with_names(alloc: Global, output: W, names: Option<ItemNames>) -> Objects<'f, W>
+    pub fn with_names(alloc: Global, output: W, names: Option<ItemNames>) -> Objects<W>
         ensures { objects result ≡ starts_objects (W.taken output) (W.has_failed output) }
     {
-        Objects::of_file(alloc, output, names, "")
+        Objects::of_file(alloc, output, names, None)
     }
 
-    /// Creates a tree of objects about a file, with names for items if there are any. Each object has a member `file`
-    /// with the name of the file, unless the name is empty.
+    /// Creates a tree of objects about a file, with names for items if there are any. If the name of the file is given,
+    /// each object has it as the member `file`.
     ///
     /// ```rattle
-    /// let mut out = Objects::of_file(alloc, BoundedSink::new(alloc, 1000)?, None, "a.wasm");
+    /// let file = String::from_str(alloc, "a.wasm")?;
+    /// let mut out = Objects::of_file(alloc, BoundedSink::new(alloc, 1000)?, None, Some(file));
     /// out.line(1, "import");
     /// out.write_out();
     /// let output = out.into_output();
@@ -99,8 +100,8 @@ impl<'f, W: Sink> Objects<'f, W> {
         alloc: Global,
         output: W,
         names: Option<ItemNames>,
-        file: &'f str,
-    ) -> Objects<'f, W>
+        file: Option<String>,
+    ) -> Objects<W>
         ensures { objects result ≡ starts_objects (W.taken output) (W.has_failed output) }
     {
         Objects {
@@ -261,9 +262,11 @@ impl<'f, W: Sink> Objects<'f, W> {
     fn put_file(&mut self)
         ensures { Adds (objects self.old) (objects self.new) }
     {
-        if !self.file.is_empty() {
-            self.member("file", Value::Quoted(self.file));
+        let file = self.file.take();
+        if let Some(name) = &file {
+            self.member("file", Value::Quoted(name.as_str()));
         }
+        self.file = file;
     }
 
     // Puts the number of an item.
@@ -389,7 +392,7 @@ impl<'f, W: Sink> Objects<'f, W> {
 }
 
 #[tactic(auto, using(crate::proofs::Saying::says_never, crate::proofs::Saying::says_none_ever))]
-impl<W: Sink> Tree for Objects<'_, W> {
+impl<W: Sink> Tree for Objects<W> {
     ghost writing = { λ t. objects t };
 
     ghost found = { λ t. None };

@@ -17,9 +17,9 @@ use wasm_tree::{ItemNames, Objects, TextLines};
 
 /// What a dump says of an input besides its bytes.
 #[derive(Drop)]
-pub struct Titles<'a> {
-    /// The name of the input, which each JSON object has as `file`, unless it is empty.
-    pub file: &'a str,
+pub struct Titles {
+    /// The name of the input, which each JSON object has as `file` if it is given.
+    pub file: Option<String>,
     /// The names of items, if they are shown.
     pub names: Option<ItemNames>,
 }
@@ -46,7 +46,7 @@ fn dump_lines<R: Source, W: Write>(
     alloc: Global,
     shown: Shown<'_>,
     format: Format,
-    titles: Titles<'_>,
+    titles: Titles,
     input: &mut R,
     output: WriteSink<W>,
 ) -> (Result<Ended, ListError>, WriteSink<W>)
@@ -66,7 +66,7 @@ fn dump_objects<R: Source, W: Write>(
     alloc: Global,
     shown: Shown<'_>,
     format: Format,
-    titles: Titles<'_>,
+    titles: Titles,
     input: &mut R,
     output: WriteSink<W>,
 ) -> (Result<Ended, ListError>, WriteSink<W>)
@@ -85,7 +85,7 @@ fn dump_over<R: Source, W: Write>(
     alloc: Global,
     shown: Shown<'_>,
     format: Format,
-    titles: Titles<'_>,
+    titles: Titles,
     input: &mut R,
     output: WriteSink<W>,
 ) -> (Result<Ended, ListError>, WriteSink<W>)
@@ -113,7 +113,7 @@ fn dump_over<R: Source, W: Write>(
 /// let mut text = Vec::new(alloc);
 /// let output = WriteSink::new(&mut text);
 /// let shown = Shown { only: &[Only::All], has_bytes: false, found: &[] };
-/// let titles = Titles { file: "", names: None };
+/// let titles = Titles { file: None, names: None };
 /// let (ended, _) = dump_as(alloc, shown, Format::new(), titles, &mut input, output);
 /// assert_eq!(rt; ended, Ok(Ended::End));
 /// assert_eq!(rt; text.as_slice(), b"version 0 8 1 module\nend 8\n".as_slice());
@@ -122,7 +122,7 @@ pub fn dump_as<R: Source, W: Write>(
     alloc: Global,
     shown: Shown<'_>,
     format: Format,
-    titles: Titles<'_>,
+    titles: Titles,
     input: &mut R,
     output: WriteSink<W>,
 ) -> (Result<Ended, ListError>, WriteSink<W>)

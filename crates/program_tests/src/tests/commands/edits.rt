@@ -69,7 +69,7 @@ const ADDED: &[u8] = b"\0asm\x01\0\0\0\0\x02\x01a\x01\x01\0\0\x03\x01bB\0\x05\x0
 const REPLACED: &[u8] = b"\0asm\x01\0\0\0\0\x05\x01axyz\x01\x01\0\0\x03\x01bB\0\x05\x01cxyz";
 
 const FAULT: &[u8] =
-    b"function section has non-zero count but code section is absent (at offset 0xc)\n";
+    b"pulleynavy: bad: 0xc: function section has non-zero count but code section is absent\n";
 
 const ROWS: [Row; 12] = [
     (&["add", "c=data", "file"], 0, ADDED, b""),
@@ -111,7 +111,37 @@ const ROWS: [Row; 12] = [
     ),
 ];
 
-const PRODUCERS: [Row; 9] = [
+// Standard input can be read only once.
+const TWICE: &[u8] =
+    b"pulleynavy add: '-' can be read only once\nTry 'pulleynavy add --help'.\n";
+
+#[test]
+fn reads_standard_input_once(rt: HostRuntime) -> Result<(), Fail> {
+    let files = Files::new(b"xyz", &NAMED);
+    let alloc = rt.alloc();
+    for words in [
+        ["add", "c=-", "d=-", "file"].as_slice(),
+        &["add", "c=-", "-"],
+        &["add", "--replace", "c=data", "d=-", "-"],
+    ] {
+        answers(&rt, alloc, words, &files, (2, b"", TWICE))?;
+    }
+    answers(&rt, alloc, &["add", "c=-", "file"], &files, (0, ADDED, b""))
+}
+
+const PRODUCERS: [Row; 11] = [
+    (
+        &["producers", "--set", "language="],
+        2,
+        b"",
+        b"pulleynavy producers: wrong value 'language=' of option '--set'\n",
+    ),
+    (
+        &["producers", "--set=sdk=:1"],
+        2,
+        b"",
+        b"pulleynavy producers: wrong value 'sdk=:1' of option '--set'\n",
+    ),
     (
         &["producers", "--set", "language=Rust:1.90", "produced"],
         0,
@@ -148,7 +178,7 @@ const PRODUCERS: [Row; 9] = [
         &["producers", "--set", "sdk=x", "strange"],
         1,
         b"",
-        b"invalid producers field name (at offset 0x15)\n",
+        b"pulleynavy: strange: 0x15: invalid producers field name\n",
     ),
     (
         &["producers", "--set", "tool=x:1"],
