@@ -125,7 +125,7 @@ class Parser:
         self._library = library or load()
         self._feed = self._library.pulleynavy_feed_init(0, features)
         self._storage = ctypes.create_string_buffer(1)
-        # What is skipped of the next chunks: the offset of each part, and how many of its bytes are to come.
+        # What is skipped of the next chunks: the offset of each part, and how many of its bytes remain.
         self._skipped: list[tuple[int, int]] = []
         self._is_ended, self._lock = False, threading.Lock()
 
@@ -189,7 +189,7 @@ class Parser:
         return size
 
     def _skip_from(self, start: int, missing: int) -> None:
-        """Skips a part that begins at an offset, of whose bytes so many are to come."""
+        """Skips a part that begins at an offset and of which this many bytes remain."""
         if missing:
             self._skipped.append((start, missing))
 
