@@ -63,7 +63,8 @@ test("an instance that trapped is discarded", () => {
 
 // A parser or a loop over a stream, one step at a time, and what it has to say.
 class Running {
-    constructor({ parse, Parser }, text, isChunked) {
+    constructor({ parse, Parser }, text, isChunked, draw) {
+        this.draw = draw;
         this.input = bytes(text);
         this.wanted = [...parse(this.input)];
         this.found = [];
@@ -79,7 +80,7 @@ class Running {
             if (value) this.found.push(value);
             return !done;
         }
-        this.found.push(...this.parser.push(this.input.subarray(this.at, (this.at += 3))));
+        this.found.push(...this.parser.push(this.input.subarray(this.at, (this.at += 1 + this.draw(40)))));
         if (this.at < this.input.length) return true;
         // A parser that has ended says nothing more.
         this.found.push(...this.parser.finish(), ...this.parser.finish(), ...this.parser.push(this.input));
@@ -104,7 +105,7 @@ test("10,000 parsers in any order are independent", () => {
     for (let begun = 0; begun < 10_000 || running.length;) {
         if (begun < 10_000 && running.length < 12 && draw(3) === 0) {
             const tail = Array.from({ length: draw(4) }, () => sections[draw(sections.length)]).join("");
-            running.push(new Running(package_, (draw(9) ? FUNCTIONS : "abcd") + tail, begun++ % 2));
+            running.push(new Running(package_, (draw(9) ? FUNCTIONS : "abcd") + tail, begun++ % 2, draw));
         } else if (running.length) {
             const place = draw(running.length), one = running[place], isLeft = draw(20) === 0;
             if (isLeft) one.leave();

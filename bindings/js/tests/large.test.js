@@ -9,11 +9,19 @@ const latin = text => Buffer.from(text, "latin1");
 const HEADER = latin("\0asm\x01\0\0\0"), SIZE = 2 ** 24, COUNT = 257;
 // A custom section of SIZE bytes, with its id and its size.
 const FILLER = Buffer.concat([latin("\0\xfb\xff\xff\x07\x01z"), Buffer.alloc(SIZE - 7)]);
-// Sections with items and faults among them, names, relocations, a body, and a fault at the end.
-const REST = latin("\x01\x05\x01\x60\x01\x7f\0" + "\x02\x0e\x02\x01m\x01f\0\0\x01m\x01g\x03\x7f\0" + "\x03\x02\x01\0" + "\x04\x04\x01\x70\0\x05" +
-    "\x05\x03\x01\0\x01" + "\x06\x06\x01\x7f\0\x41\x05\x0b" + "\x07\x04\x01\x01e\x05" + "\x09\x07\x01\0\x41\0\x0b\x01\0" + "\x0a\x04\x01\x02\0\x0b" +
-    "\x0b\x08\x01\0\x41\0\x0b\x02hi" + "\0\x0e\x04name\x01\x07\x02\x01\x01a\x01\x01b" + "\0\x0b\x04name\x02\x04\x01\0\x01\0" +
-    "\0\x0e\x0areloc.CODE\x03\x01\x05" + "\x64\x01\0" + "\x80");
+const sized = text => String.fromCharCode(text.length) + text, section = (id, content) => String.fromCharCode(id) + sized(content);
+const custom = (name, data) => section(0, sized(name) + data);
+// Sections with items and faults among them, custom sections that are malformed in each of their parts, a body, and a fault at the end.
+const SECTIONS = [
+    section(1, "\x02\x60\x01\x7f\0\x60\x01\x05\0"), section(2, "\x02\x01m\x01f\0\0\x01m\0\x7f\x02\x01g\x03\x7f\0\x01h\x09"), section(3, "\x01\0"),
+    section(4, "\x01\x70\0\x05"), section(5, "\x01\0\x01"), section(6, "\x01\x7f\0\x41\x05\x0b"), section(7, "\x01\x01e\x05"), section(9, "\x01\0\x41\0\x0b\x01\0"),
+    section(10, "\x01\x02\0\x0b"), section(11, "\x01\0\x41\0\x0b\x02hi"),
+    custom("name", "\x01\x07\x02\x01\x01a\x01\x01b"), custom("name", "\x02\x03\x01\0\x01"), custom("name", "\0\x02\0\0"), custom("name", "\x02\x01\0\x01\x01\0"),
+    custom("reloc.CODE", "\x03\x01\x05"), custom("reloc.CODE", "\x80"), custom("core", "\0\x01pp"), custom("coremodules", "\x02\0\x01a\x07"),
+    custom("coreinstances", "\x01\0\x02\x01"), custom("producers", "\x01\x03sdk\x01\x01a"), custom("linking", "\x02\x08\x02\x01\x09"),
+    custom("dylink.0", "\x03\x02\x01\x05"), custom("target_features", "\x02+\x01a"), section(100, "\0"), "\x80",
+];
+const REST = latin(SECTIONS.join(""));
 // The fields that are offsets of the stream. Those of relocations, hints and symbols have other origins.
 const PLACES = new Set(["start", "end", "dataStart"]), OTHER = new Set(["relocation", "hint", "symbol"]);
 
@@ -36,5 +44,7 @@ test("offsets beyond 2^32", () => {
         const offset = 8 + i * SIZE;
         assert.deepEqual(event, { kind: "custom", offset, start: offset + 5, end: offset + SIZE, id: 0, name: "z", dataStart: offset + 7, contents: null });
     });
-    assert.ok(wanted.length > 14 && wanted.at(-1).kind === "fault" && wanted.flatMap(event => event.items ?? []).some(it => it.kind === "fault"));
+    // One event for each section, and one for the body.
+    assert.equal(wanted.length, SECTIONS.length + 1);
+    assert.equal(JSON.stringify(wanted, (key, value) => (typeof value === "bigint" ? 0 : value)).split('"kind":"fault"').length - 1, 17);
 });
