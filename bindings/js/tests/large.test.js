@@ -13,7 +13,7 @@ const sized = text => String.fromCharCode(text.length) + text, section = (id, co
 const custom = (name, data) => section(0, sized(name) + data);
 // Sections with items and faults among them, custom sections that are malformed in each of their parts, a body, and a fault at the end.
 const SECTIONS = [
-    section(1, "\x02\x60\x01\x7f\0\x60\x01\x05\0"), section(2, "\x02\x01m\x01f\0\0\x01m\0\x7f\x02\x01g\x03\x7f\0\x01h\x09"), section(3, "\x01\0"),
+    section(1, "\x02\x60\x01\x7f\0\x60\x01\x05\0"), section(2, "\x02\x01m\x01f\0\0\x01m\0\x7f\x02\x01g\x03\x7f\0\x01\xff\x03\x7f\0"), section(3, "\x01\0"),
     section(4, "\x01\x70\0\x05"), section(5, "\x01\0\x01"), section(6, "\x01\x7f\0\x41\x05\x0b"), section(7, "\x01\x01e\x05"), section(9, "\x01\0\x41\0\x0b\x01\0"),
     section(10, "\x01\x02\0\x0b"), section(11, "\x01\0\x41\0\x0b\x02hi"),
     custom("name", "\x01\x07\x02\x01\x01a\x01\x01b"), custom("name", "\x02\x03\x01\0\x01"), custom("name", "\0\x02\0\0"), custom("name", "\x02\x01\0\x01\x01\0"),
