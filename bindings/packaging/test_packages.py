@@ -24,6 +24,7 @@ import desktops
 import generate_manuals
 import modelled
 import packages
+import suites
 from common import Failed, require, write
 
 MANIFEST = '[package]\nname = "t"\nversion = "0.0.0"\nedition = "2021"\n\n[dependencies]\npulleynavy = "%s"\n' % common.version()
@@ -179,7 +180,7 @@ class Trial:
         self.expect(self.run(python, program, self.file), "the wheel")
         # The tests run in a folder that has nothing else.
         shutil.copytree(packages.source("bindings", "python", "tests"), self.place + "/suite/tests")
-        self.run(python, "-m", "unittest", "discover", "-s", "tests", "-t", ".", folder=self.place + "/suite")
+        suites.passed_in_python(self.run(python, "-m", "unittest", "discover", "-s", "tests", "-t", ".", folder=self.place + "/suite", more={"PULLEYNAVY_STREAMS": common.GOLDEN}))
         said = self.run(os.path.join(os.path.dirname(python), "pulleynavy"), "list", self.file)
         require("import (1)" in said, "pulleynavy list does not list the sections")
         # The wheel says that it is for musl too, so its library is loaded there.

@@ -18,6 +18,7 @@ import common
 import modelled
 import packages
 import programs
+import suites
 from modules import mutants
 
 TSC = ["--strict", "--noEmit", "--target", "es2022", "--module", "es2022", "--moduleResolution", "node"]
@@ -88,7 +89,7 @@ def tried(given, folder, node):
     streams, mutated = (modelled.write(os.path.join(folder, name), of) for name, of in (("streams.jsonl", rows), ("mutated.jsonl", changed)))
     text = common.must([node, "--test"], folder=place, env={"PULLEYNAVY_STREAMS": streams})
     passed = sum(int(line.split()[-1]) for line in text.splitlines() if line.startswith(("# pass ", "ℹ pass ")))
-    said = "%d tests, %d streams (seed %d), %d with changed bytes" % (passed, len(rows), given.seed, len(changed))
+    said = "%d tests, %d streams (seed %d), %d with changed bytes" % (suites.passed("js", passed), len(rows), given.seed, len(changed))
     common.must([node, "--expose-gc", "tests/streams.test.js"], folder=place, env={"PULLEYNAVY_STREAMS": mutated})
     if wasm64:
         flags = ["--experimental-wasm-memory64"]

@@ -26,6 +26,7 @@ import common
 import modelled
 import programs
 import sequences as tables
+import suites
 from modules import mutants
 
 CRATE = os.path.join(common.TOP, "crates", "wasm_c")
@@ -354,7 +355,7 @@ def with_python(folder, archive, streams, changed, is_first):
     os.environ["PULLEYNAVY_LIB"] = library
     package = os.path.join(common.TOP, "bindings", "python")
     os.environ["PULLEYNAVY_STREAMS"] = modelled.write(os.path.join(folder, "streams.jsonl"), streams + changed)
-    common.must([sys.executable, "-B", "-m", "unittest", "discover", "-q", "-s", "tests", "-t", "."], folder=package)
+    suites.passed_in_python(common.must([sys.executable, "-B", "-m", "unittest", "discover", "-q", "-s", "tests", "-t", "."], folder=package))
     if is_first and common.found("mypy"):
         common.must(["mypy", "--strict", "--cache-dir", os.path.join(folder, "mypy"), "pulleynavy", "tests"], folder=package)
 
