@@ -13,6 +13,8 @@ const WORDS = { external: "kind", init: "initial value", memory64: "64-bit", tab
 const SKIPPED = new Set([
     "kind", "start", "end", "bodies", "contents", "fault", "code", "encoding", "explicit", "owned", "id", "of", "dataStart",
 ]);
+// What the prefix of a target feature says of it.
+const PREFIXES = { "+": "used", "-": "not allowed beside this file", "=": "required" };
 const NUMBERED = new Set(["start", "export", "symbol", "comdat symbol"]), OFFSET = new Set(["relocation", "hint", "symbol"]);
 // Fields that are an index of this space.
 const INDICES = { type: "type", supertype: "type", memory: "memory", table: "table", function: "func" };
@@ -64,6 +66,7 @@ const ROWS = {
     module: part => ["module name", shown(part.name)],
     value: part => [shown(part.name), "", shown(part.version)],
     field: part => [shown(part.name), "", inside(part)],
+    feature: part => [shown(part.name), "", PREFIXES[part.prefix] ?? `prefix ${part.prefix.charCodeAt(0)}`],
     hint: part => [`at ${hex(part.offset)} of the body`, "", part.taken ? "likely taken" : "likely not taken"],
     symbol: (part, model) => [`${part.symbol} symbol`, nameOfSymbol(model, part), part.index === null ? "undefined" : ""],
     "comdat symbol": (part, model) => [reference(model, spaceOf(part.symbol), part.index)],

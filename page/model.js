@@ -4,7 +4,7 @@
 const NONE = [];
 // The fields that hold the children of a part.
 const LISTS = [
-    "items", "bodies", "subsections", "fields", "functions", "relocations", "names", "values", "hints", "symbols", "exports", "imports",
+    "items", "bodies", "subsections", "fields", "features", "functions", "relocations", "names", "values", "hints", "symbols", "exports", "imports",
 ];
 // The kinds whose `offset` is their first byte. Elsewhere `offset` is a field of the item.
 const EVENTS = new Set(["version", "section", "start", "data count", "code", "body", "custom", "unknown", "fault"]);

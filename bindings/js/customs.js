@@ -104,6 +104,21 @@ function branchHints(w) {
     return found && { kind: "branch hints", count: found.count, functions: found.items };
 }
 
+// ---- target features
+
+const FEATURES = {
+    call: "pulleynavy_next_target_features", layout: d.TargetFeatureLayout,
+    make: (w, view, p, start, end) => ({
+        kind: "feature", start, end, prefix: String.fromCharCode(u32(view, p + d.TargetFeatureLayout.prefix)),
+        name: w.text(p + d.TargetFeatureLayout.name),
+    }),
+};
+
+function targetFeatures(w) {
+    const found = listed(w, 0, FEATURES);
+    return found && { kind: "target features", count: found.count, features: found.items };
+}
+
 // ---- dynamic linking
 
 const TEXTS = { call: "pulleynavy_next_texts", layout: d.NameLayout, make: (w, view, p) => w.text(p + d.NameLayout.name) };
@@ -327,8 +342,11 @@ const READERS = {
     [d.CustomKind.CORE_STACK]: whole(coreStack),
 };
 
-/** What the data of a custom section of this kind says, or its fault. Returns null where the kind is not known. */
-export function contentsOf(w, kind) {
-    const reader = READERS[kind];
+// Sections to which the library gives no kind, by their names.
+const NAMED = { target_features: targetFeatures };
+
+/** What the data of a custom section of this kind and name says, or its fault. Returns null where neither is known. */
+export function contentsOf(w, kind, name) {
+    const reader = READERS[kind] ?? (Object.hasOwn(NAMED, name) ? NAMED[name] : null);
     return reader ? reader(w) ?? w.fault : null;
 }

@@ -10,9 +10,10 @@ const KINDS = new Map([
 const NONE = new Uint8Array(0);
 const encoder = new TextEncoder();
 
-// A name as bytes. Throws a TypeError if it is not a string.
+// A name as bytes. Throws a TypeError if it is not a string, or not one of Unicode: an encoder replaces a lone surrogate by U+FFFD.
 function nameOf(name) {
     if (typeof name !== "string") throw new TypeError("the name of a section is not a string");
+    if (/\p{Surrogate}/u.test(name)) throw new TypeError("the name of a section has a lone surrogate");
     return encoder.encode(name);
 }
 

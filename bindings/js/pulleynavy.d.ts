@@ -20,6 +20,8 @@ export interface Range {
 /** A part of the stream. `start` and `end` are the offsets of its content; `offset` is where the part begins, with its id and size. */
 export interface Part extends Range {
     readonly offset: number;
+    /** A copy of the bytes of the part, from `offset` on, with its id and size. It is there only with `bytes: true`. */
+    readonly bytes?: Uint8Array;
 }
 /** The header of a module or component. */
 export interface Version extends Part {
@@ -343,6 +345,14 @@ export interface ProducersField extends Range {
     /** The languages or tools, with faults among them. */
     readonly values: readonly (ProducersValue | Fault)[];
 }
+/** A feature of the target, of the section `target_features`. */
+export interface TargetFeature extends Range {
+    readonly kind: "feature";
+    /** The character `+` if the module uses the feature, `-` if no module that uses it may be linked with this one. Other bytes are kept. */
+    readonly prefix: string;
+    /** The name of the feature. */
+    readonly name: string;
+}
 /** A branch hint: whether a branch is likely to be taken. */
 export interface BranchHint extends Range {
     readonly kind: "hint";
@@ -508,6 +518,7 @@ export interface CoreFrame {
 export type Contents =
     | { readonly kind: "name"; readonly subsections: readonly (NameSubsection | Fault)[] }
     | { readonly kind: "producers"; readonly count: number; readonly fields: readonly (ProducersField | Fault)[] }
+    | { readonly kind: "target features"; readonly count: number; readonly features: readonly (TargetFeature | Fault)[] }
     | { readonly kind: "branch hints"; readonly count: number; readonly functions: readonly (HintedFunction | Fault)[] }
     | { readonly kind: "dylink.0"; readonly subsections: readonly (DylinkSubsection | Fault)[] }
     | { readonly kind: "linking"; readonly version: number; readonly subsections: readonly (LinkingSubsection | Fault)[] }
@@ -531,6 +542,8 @@ export interface Options {
     readonly features?: number;
     /** Whether the items of sections and the contents of custom sections are read. By default true; without them it is faster. */
     readonly items?: boolean;
+    /** Whether each part has a copy of its `bytes`. By default false: those of `parse` are the bytes that you pass. */
+    readonly bytes?: boolean;
 }
 /** Bytes of a stream: a typed array, a view or a buffer. */
 export type Bytes = Uint8Array | ArrayBuffer | SharedArrayBuffer | ArrayBufferView;
@@ -568,7 +581,7 @@ export interface Parser {
     finish(): Event[];
 }
 /**
- * A transform stream from chunks of a module to events.
+ * A transform stream from chunks of a module to events. After a fault it cancels its source.
  *
  * @example
  * import assert from "node:assert";
@@ -641,7 +654,7 @@ export interface Pulleynavy {
      * The other sections keep their bytes and their order. A later edit also changes the sections that an earlier one added. `fault` is the
      * fault of a malformed stream; `bytes` is then null.
      *
-     * @throws {TypeError} if `bytes` or data is not a typed array, a view or a buffer, or an edit has none of the keys
+     * @throws {TypeError} if `bytes` or data is not a typed array, a view or a buffer, an edit has none of the keys, or a name has a lone surrogate
      * @throws {RangeError} if a new section is one that `encodeCustom` refuses, or memory can't grow
      *
      * @example
@@ -659,7 +672,7 @@ export interface Pulleynavy {
      *
      * Numbers have as few bytes as possible.
      *
-     * @throws {TypeError} if `data` is not a typed array, a view or a buffer
+     * @throws {TypeError} if `data` is not a typed array, a view or a buffer, or the name has a lone surrogate
      * @throws {RangeError} if the name has more than 100,000 bytes, the name and the data 2^32 or more, or memory can't grow
      *
      * @example
@@ -681,7 +694,7 @@ export interface Pulleynavy {
  *
  * The promise is rejected with the errors of `fromModule`, with those of `WebAssembly.compile`, and if a file can't be fetched.
  *
- * @throws {TypeError} if it is another module, or of another version
+ * @throws {TypeError} if it is another module, or of another version; and without `source` in a script for browsers that is no module
  * @throws {Error} if the response for a URL is not successful
  *
  * @example

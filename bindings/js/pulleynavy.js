@@ -1,6 +1,6 @@
 // SPDX-License-Identifier: Apache-2.0 OR MIT
 // A streaming parser for WebAssembly binaries. README.md says how to use it, pulleynavy.d.ts what every object has.
-import { CALLS, CustomKind, EventLayout, FeedLayout, VERSION } from "./declared.js";
+import { CALLS, EventLayout, FeedLayout, VERSION } from "./declared.js";
 import { contentsOf } from "./customs.js";
 import { edit, encodeCustom, strip } from "./edits.js";
 import { CHUNK, Instance, batchOf, bytesOf, offsetAt } from "./instance.js";
@@ -41,10 +41,11 @@ export function faultText(fault) {
 
 // Reads one event after the other of the bytes that the feeder of an instance holds.
 class Reader {
-    constructor(instance, { features = ALL_FEATURES, items = true } = {}) {
+    constructor(instance, { features = ALL_FEATURES, items = true, bytes = false } = {}) {
         this.instance = instance;
         this.features = features;
         this.hasItems = items;
+        this.hasBytes = bytes;
         this.offset = 0;
         // The events that are stored and not read, and the address that their bytes are counted from.
         this.next = this.last = 0;
@@ -91,17 +92,24 @@ class Reader {
         if (this.next === this.last) this.fill();
         const { instance, offset, next: p } = this, { view } = instance, mark = instance.feed + FeedLayout.mark;
         const kind = view.getUint32(p + EventLayout.kind, true), consumed = view.getUint32(p + EventLayout.consumed, true);
+        const first = view.getUint32(mark, true), start = offsetAt(view, p + EventLayout.start), end = offsetAt(view, p + EventLayout.end);
         this.next += EventLayout.SIZE;
         this.offset += consumed;
-        view.setUint32(mark, view.getUint32(mark, true) + consumed, true);
-        const start = offsetAt(view, p + EventLayout.start), end = offsetAt(view, p + EventLayout.end);
+        view.setUint32(mark, first + consumed, true);
         switch (kind) {
             case 0: return null;
-            case 6: return { kind: "body", offset, start, end };
+            case 6: return this.withBytes({ kind: "body", offset, start, end }, first, consumed);
             case 9: return { kind: "end", offset };
             case 10: return instance.fault(p + EventLayout.fault);
-            default: return this.event(kind, p, offset, start, end);
+            default: return this.withBytes(this.event(kind, p, offset, start, end), first, consumed);
         }
+    }
+
+    // An event with a copy of its bytes, if they are asked for.
+    withBytes(event, first, size) {
+        const { bytes, storage } = this.instance;
+        if (this.hasBytes) event.bytes = bytes.slice(storage + first, storage + first + size);
+        return event;
     }
 
     event(kind, p, offset, start, end) {
@@ -143,7 +151,7 @@ class Reader {
             const kind = instance.calls.pulleynavy_classify_custom(BigInt(content.address + nameAt), BigInt(nameSize));
             const skipped = dataStart - start;
             const data = new Window(instance, content.address + skipped, content.size - skipped, dataStart, this.features);
-            if (kind !== CustomKind.UNKNOWN) contents = contentsOf(data, kind);
+            contents = contentsOf(data, kind, name);
         }
         return { kind: "custom", offset, start, end, id: 0, name, dataStart, contents };
     }
@@ -264,7 +272,11 @@ export function fromModule(module) {
     }
     class ParserStream extends TransformStream {
         constructor(options) {
-            const parser = new Parser(options), send = (events, controller) => events.forEach(event => controller.enqueue(event));
+            const parser = new Parser(options), send = (events, controller) => {
+                for (const event of events) controller.enqueue(event);
+                // After a fault there is no event, so the source need not go on.
+                if (events.at(-1)?.kind === "fault") controller.terminate();
+            };
             super({
                 transform: (chunk, controller) => send(parser.push(chunk), controller),
                 flush: controller => send(parser.finish(), controller),
@@ -281,6 +293,12 @@ export function fromModule(module) {
     };
 }
 
+// The module next to this file. Bundlers know this form of a URL.
+function besideThis() {
+    if (!import.meta.url) throw new TypeError("a script that is no module does not know where pulleynavy.wasm is: pass it, or import pulleynavy/inline");
+    return new URL("./pulleynavy.wasm", import.meta.url);
+}
+
 async function received(response) {
     if (!response.ok) throw new Error(`${response.url}: status ${response.status}`);
     return response.arrayBuffer();
@@ -291,10 +309,10 @@ async function received(response) {
  *
  * @param {URL | string | Response | ArrayBuffer | ArrayBufferView | WebAssembly.Module} source
  * @returns {Promise<import("./pulleynavy.js").Pulleynavy>}
- * @throws {TypeError} if it is another module, or of another version
+ * @throws {TypeError} if it is another module, or of another version; and without `source` in a script for browsers that is no module
  * @throws {Error} if the response for a URL is not successful
  */
-export async function load(source = new URL("./pulleynavy.wasm", import.meta.url)) {
+export async function load(source = besideThis()) {
     if (source instanceof WebAssembly.Module) return fromModule(source);
     if (source instanceof URL || typeof source === "string") source = await fetch(source);
     return fromModule(await WebAssembly.compile(source instanceof Response ? await received(source) : source));

@@ -24,9 +24,15 @@ import desktops
 import generate_manuals
 import modelled
 import packages
+import suites
 from common import Failed, require, write
 
 MANIFEST = '[package]\nname = "t"\nversion = "0.0.0"\nedition = "2021"\n\n[dependencies]\npulleynavy = "%s"\n' % common.version()
+VERSIONS = """cmake_minimum_required(VERSION 3.19)
+project(versions NONE)
+find_package(pulleynavy %s QUIET CONFIG)
+message(STATUS "found: ${pulleynavy_FOUND}")
+"""
 # How many files the example scans.
 FILES = 10_000
 # What the systems of Debian have, in which packages are tried. The second has the oldest Rust that the crate needs.
@@ -54,6 +60,22 @@ def with_cmake(place, prefix, sources, version, *words, **settings):
     common.must(["cmake", "-S", place, "-B", place + "/out", "-DCMAKE_PREFIX_PATH=" + prefix, *words], env=settings)
     common.must(["cmake", "--build", place + "/out"], env=settings)
     return place + "/out"
+
+
+def requests(version):
+    """Versions that a project asks for, and whether this version is one of them: each minor version of 0 may change anything."""
+    major, minor, patch = map(int, version.split("."))
+    series, other, patch_after = "%d.%d" % (major, minor), "%d.%d" % (major, minor + 1), "%d.%d.%d" % (major, minor, patch + 1)
+    yield from ((text, True) for text in ("", series, version, version + " EXACT", "%s...<%s" % (series, other), "%s...%s" % (series, version)))
+    before = "%d.%d" % (major, minor - 1) if minor else "9.9"
+    yield from ((text, False) for text in (before, before + ".0 EXACT", other, patch_after, patch_after + " EXACT", "%d.%d" % (major + 1, minor)))
+
+
+def is_found(place, prefix, request):
+    """Whether CMake finds a package of the version that a project asks for, below a prefix."""
+    folder = tempfile.mkdtemp(dir=place)
+    write(folder + "/CMakeLists.txt", VERSIONS % request)
+    return "found: 1" in common.must(["cmake", "-S", folder, "-B", folder + "/out", "-DCMAKE_PREFIX_PATH=" + prefix], env={"PULLEYNAVY_LIB": None})
 
 
 class System:
@@ -158,7 +180,7 @@ class Trial:
         self.expect(self.run(python, program, self.file), "the wheel")
         # The tests run in a folder that has nothing else.
         shutil.copytree(packages.source("bindings", "python", "tests"), self.place + "/suite/tests")
-        self.run(python, "-m", "unittest", "discover", "-s", "tests", "-t", ".", folder=self.place + "/suite")
+        suites.passed_in_python(self.run(python, "-m", "unittest", "discover", "-s", "tests", "-t", ".", folder=self.place + "/suite", more={"PULLEYNAVY_STREAMS": common.GOLDEN}))
         said = self.run(os.path.join(os.path.dirname(python), "pulleynavy"), "list", self.file)
         require("import (1)" in said, "pulleynavy list does not list the sections")
         # The wheel says that it is for musl too, so its library is loaded there.
@@ -238,7 +260,7 @@ class Trial:
         require(self.end in self.run(prefix + "/bin/wasm_list", stream=self.stream), "wasm_list of the tarball does not list the stream")
 
     def found_by_cmake(self, prefix):
-        """Builds the C program as CMake finds the library below a prefix: the shared one and the static one. A wrong version is not found."""
+        """Builds the C program as CMake finds the library below a prefix: the shared one and the static one. Other versions are not found."""
         place, program, version = self.place + "/cmake", write(self.place + "/t.c", source("program.c")), ".".join(common.version().split(".")[:2])
         made = with_cmake(place, prefix, [program], version)
         for name in ("pulleynavy", "static"):
@@ -246,11 +268,8 @@ class Trial:
             is_shared = packages.soname() in self.run("readelf", "-dW", built)
             require(is_shared == (name == "pulleynavy"), "CMake links the %s library otherwise" % name)
             self.expect(self.run(built, stream=self.stream), "the C program that CMake built with the %s library" % name)
-        try:
-            said = with_cmake(place + "_old", prefix, [program], "0.9")
-        except Failed as failed:
-            said = str(failed)
-        require("compatible" in said, "CMake does not say that version 0.9 is another one")
+        for request, is_there in requests(common.version()):
+            require(is_found(place, prefix, request) == is_there, "CMake finds version %s: %s" % (request, not is_there))
 
     # ---- Debian
 

@@ -8,6 +8,7 @@ COMMANDS = {
     "compare": {
         "listings": ("compare_streams:listings", "listings of random streams"),
         "check": ("compare_dumps:check", "the malformed items of random streams and of modules"),
+        "checks": ("compare_checks", "what `check` of the command line, the wheel and the npm package say of changed files"),
         "dump": ("compare_dumps:dump", "dumps of random streams and of modules"),
         "edits": ("compare_streams:edits", "streams with custom sections that were added, replaced and extracted"),
         "forms": ("compare_forms", "dumps as JSON, with names, bytes, colors and hexadecimal offsets, with those in lines"),

@@ -421,7 +421,20 @@ TARGETS = {
 }
 
 
+def missing_targets():
+    """The systems with processors of docs/PLATFORMS.md that the header does not name as targets."""
+    sentence = re.search(r" \* Targets: (.*?)\. ", TEMPLATE, re.S)[1].replace("\n * ", " ")
+    # A system comes before its processors.
+    parts = {part.split()[0]: part.split() for part in re.split(r", (?=\w+ on )", sentence)}
+    for system, processor in re.findall(r"^\| (\w+), (\S+) \|", common.read("docs", "PLATFORMS.md"), re.M):
+        if processor not in " ".join(parts.get(system, [])).replace(",", "").split():
+            yield "%s on %s" % (system, processor)
+
+
 def made():
+    lacking = list(missing_targets())
+    if lacking:
+        common.stop(common.DIFFERS, "the header does not name %s as a target" % ", ".join(lacking))
     page = common.read("docs", "C.md")
     for name in [path[:-3] for path in sorted(os.listdir(os.path.join(CRATE, "src"))) if path.endswith(".rt")]:
         if name not in SOURCES and "no_mangle" in source(name):

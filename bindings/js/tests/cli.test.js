@@ -56,8 +56,8 @@ test("check prints the first fault of each file, in its items and custom section
         const rows = readFileSync(GOLDEN, "ascii").trim().split("\n").slice(0, 400).map(row => JSON.parse(row)), wanted = [];
         const paths = rows.map(({ hex, lines }, number) => {
             const path = join(folder, `${number}.wasm`);
-            // Constant expressions and target features are bytes here.
-            const [fault] = lines.filter(text => !text.includes("target_features")).join("\n").match(/fault \d+ [^\n:]*?(?=[:\n})\]]| $|$)/) ?? [];
+            // Constant expressions are bytes here.
+            const [fault] = lines.join("\n").match(/fault \d+ [^\n:]*?(?=[:\n})\]]| $|$)/) ?? [];
             if (fault) wanted.push([path, Number(fault.split(" ")[1]), fault.split(" ").slice(2).join(" ").trim()]);
             writeFileSync(path, Buffer.from(hex, "hex"));
             return path;
@@ -68,6 +68,21 @@ test("check prints the first fault of each file, in its items and custom section
             assert.ok(said[number].startsWith(`${path}: ${text}`) && said[number].endsWith(`(at offset 0x${offset.toString(16)})`), `${said[number]}, ${text}`);
         }
         assert.ok(wanted.length > 50 && wanted.length < rows.length - 50);
+    } finally {
+        rmSync(folder, { recursive: true });
+    }
+});
+
+test("the status of check is the greatest of all files, in any order", () => {
+    const folder = mkdtempSync(join(tmpdir(), "pulleynavy-")), [good, bad, missing] = ["good", "bad", "missing"].map(name => join(folder, name));
+    try {
+        writeFileSync(good, latin(HEADER));
+        writeFileSync(bad, latin(HEADER + "\x07\x04\x01\x01a\x05"));
+        const rows = [[[good, good], 0], [[bad, good], 1], [[good, bad], 1], [[good, bad, good], 1], [[missing, bad, good], 3], [[bad, missing], 3]];
+        for (const [paths, status] of rows) {
+            const done = run("check", ...paths), said = done.stderr.split("\n").slice(0, -1).map(line => line.split(": ")[0]);
+            assert.deepEqual([done.status, done.stdout, said], [status, "", paths.filter(path => path !== good)]);
+        }
     } finally {
         rmSync(folder, { recursive: true });
     }

@@ -4,8 +4,9 @@ import assert from "node:assert/strict";
 import { spawnSync } from "node:child_process";
 import { readFileSync } from "node:fs";
 import test from "node:test";
-import { CALLS } from "../declared.js";
+import { setImmediate } from "node:timers/promises";
 import { ALL_FEATURES, COMPACT_IMPORTS, MEMORY64, VERSION, faultText, fromModule, load, typeText } from "../node.js";
+import { watched } from "./watched.js";
 
 const wasm = readFileSync(new URL("../pulleynavy.wasm", import.meta.url));
 const { parse, Parser, ParserStream, strip, edit, encodeCustom } = await load(wasm);
@@ -265,6 +266,69 @@ test("a stream that ends early, and a fault, through ParserStream", async () => 
     }
 });
 
+test("a stream with a fault at its start ends its source", async () => {
+    for (const [head, kinds] of [["abcd", ["fault"]], [HEADER + "\0\x02\x01x\x80", ["version", "custom", "fault"]]]) {
+        let pulled = 0, cancelled = 0;
+        const source = new ReadableStream({
+            pull(controller) {
+                controller.enqueue(pulled++ ? new Uint8Array(65536) : bytes(head));
+                if (pulled > 2000) controller.close();
+            },
+            cancel() {
+                cancelled++;
+            },
+        });
+        const found = [];
+        for await (const event of source.pipeThrough(new ParserStream())) found.push(event.kind);
+        // The source is cancelled after the reader has ended.
+        await setImmediate();
+        assert.deepEqual([found, cancelled], [kinds, 1]);
+        assert.ok(pulled < 10, `${pulled} chunks are read`);
+    }
+});
+
+test("a fault at the end of input does not cancel the source", async () => {
+    let cancelled = 0;
+    const start = controller => {
+        controller.enqueue(bytes(FUNCTIONS.slice(0, 9)));
+        controller.close();
+    };
+    const found = [], source = new ReadableStream({ start, cancel: () => cancelled++ });
+    for await (const event of source.pipeThrough(new ParserStream())) found.push(event.kind);
+    await setImmediate();
+    assert.deepEqual([found, cancelled], [["version", "fault"], 0]);
+});
+
+test("events with their bytes are the whole stream, and are copies", () => {
+    const text = IMPORTS + FUNCTIONS.slice(8) + "\0\x02\x01x\x64\x01y", input = bytes(text), options = { bytes: true };
+    for (const size of [1, 2, 5, 100]) {
+        const parser = new Parser(options), events = [];
+        for (let at = 0; at < input.length; at += size) events.push(...parser.push(input.subarray(at, at + size)));
+        events.push(...parser.finish());
+        assert.equal(events.map(event => Buffer.from(event.bytes ?? []).toString("latin1")).join(""), text);
+        assert.deepEqual([...parse(input, options)], events);
+        assert.deepEqual(events.map(({ bytes, ...rest }) => rest), [...parse(input)]);
+        for (const { bytes } of events.slice(0, -1)) assert.equal(bytes.byteLength, bytes.buffer.byteLength);
+    }
+    const [version] = parse(input, options);
+    input.fill(0);
+    assert.deepEqual(version.bytes, bytes(HEADER));
+});
+
+test("a stream returns the source map that a module names", async () => {
+    const url = "a.wasm.map", section = "\x10sourceMappingURL" + String.fromCharCode(url.length) + url;
+    const module = bytes(FUNCTIONS + "\0" + String.fromCharCode(section.length) + section);
+    const events = new Blob([module]).stream().pipeThrough(new ParserStream({ items: false, bytes: true }));
+    for await (const event of events) {
+        if (event.name !== "sourceMappingURL") continue;
+        // One byte of data is the size of the URL.
+        const data = event.bytes.subarray(event.dataStart - event.offset);
+        assert.equal(new TextDecoder().decode(data.subarray(1)), url);
+        return;
+    }
+    assert.fail("the section is missing");
+});
+
 test("stripping", () => {
     const module = bytes(HEADER + "\0\x05\x04name\0\x02\x01x");
     assert.deepEqual(strip(module), { fault: null, bytes: bytes(HEADER) });
@@ -287,6 +351,13 @@ test("edits", () => {
     assert.deepEqual(copy.fill(0), new Uint8Array(module.length));
     assert.deepEqual([edit(bytes("abcd"), []), edit(bytes("abcd"), [{ remove: "a" }, { append: "a".repeat(100_001), data }])].map(
         ({ fault, bytes }) => [fault.fault, fault.offset, bytes]), [["BAD_MAGIC", 0, null], ["BAD_MAGIC", 0, null]]);
+    // An encoder makes U+FFFD of a lone surrogate, which is another name.
+    const replacement = edit(module, [{ append: "\ufffd", data }]).bytes;
+    for (const name of ["\ud800", "\udfff", "a\ud83d", "\ude00\ud83d"]) {
+        for (const one of [{ append: name, data }, { replace: name, data }, { remove: name }, { keep: name }]) assert.throws(() => edit(replacement, [one]), TypeError);
+        assert.throws(() => encodeCustom(name, data), TypeError);
+    }
+    assert.deepEqual(encodeCustom("\ud83d\ude00\ufffd", data), bytes("\0\x09\x07\xf0\x9f\x98\x80\xef\xbf\xbdz"));
     for (const wrong of [{}, { data }, null, "remove", { remove: 5 }, { append: "a" }, { append: "a", data: "text" }]) {
         assert.throws(() => edit(module, [wrong]), TypeError);
     }
@@ -303,73 +374,7 @@ test("custom sections", () => {
     assert.throws(() => encodeCustom(5, bytes("")), TypeError);
 });
 
-// ---- instances
-
-// Runs `body` while instances are counted and their calls go through `calls`.
-function watched(calls, body) {
-    const { Instance } = WebAssembly, made = [];
-    WebAssembly.Instance = class {
-        constructor(module) {
-            const { exports } = new Instance(module);
-            this.exports = { ...exports, ...calls(exports) };
-            made.push(this);
-        }
-    };
-    try {
-        return body(made);
-    } finally {
-        WebAssembly.Instance = Instance;
-    }
-}
-
-test("the module has no imports, two pages of memory, and traps for good after a trap", () => {
-    const module = new WebAssembly.Module(wasm), { exports } = new WebAssembly.Instance(module);
-    assert.deepEqual(WebAssembly.Module.imports(module), []);
-    assert.deepEqual(Object.keys(exports).sort(), ["__heap_base", "memory", ...CALLS].sort());
-    assert.equal(exports.memory.buffer.byteLength, 2 * 65536);
-    assert.equal(exports.pulleynavy_read_number.length, 5);
-    assert.ok(exports.pulleynavy_version() > 0);
-    assert.throws(() => exports.pulleynavy_parser_init(0xfffffff0n, 0n, 0), WebAssembly.RuntimeError);
-    assert.throws(() => exports.pulleynavy_version(), WebAssembly.RuntimeError);
-});
-
-test("a parser keeps the bytes of one section alone", () => {
-    watched(() => ({}), made => {
-        const { Parser } = fromModule(new WebAssembly.Module(wasm)), parser = new Parser();
-        const section = new Uint8Array(10_000), names = new Set();
-        section.set(bytes("\0\x8d\x4e\x01x"));
-        parser.push(bytes(HEADER));
-        for (let i = 0; i < 5000; i++) for (const event of parser.push(section)) names.add(`${event.kind} ${event.end - event.start}`);
-        assert.deepEqual([...names], ["custom 9997"]);
-        assert.ok(made.at(-1).exports.memory.buffer.byteLength < 500_000);
-    });
-});
-
-test("an instance is used again, also after a loop that ends early", () => {
-    watched(() => ({}), made => {
-        const { parse } = fromModule(new WebAssembly.Module(wasm));
-        for (let i = 0; i < 10; i++) for (const event of parse(bytes(FUNCTIONS))) if (i % 2) break;
-        assert.equal(made.length, 1);
-    });
-});
-
-test("an instance that trapped is discarded", () => {
-    let isBroken = false;
-    const trapping = exports => ({
-        pulleynavy_next_events: (parser, ...rest) => exports.pulleynavy_next_events(isBroken ? 0xfffffff0n : parser, ...rest),
-    });
-    watched(trapping, made => {
-        const { parse, Parser } = fromModule(new WebAssembly.Module(wasm)), wanted = [...parse(bytes(FUNCTIONS))], parser = new Parser();
-        isBroken = true;
-        assert.throws(() => [...parse(bytes(FUNCTIONS))], WebAssembly.RuntimeError);
-        assert.throws(() => parser.push(bytes(FUNCTIONS)), WebAssembly.RuntimeError);
-        isBroken = false;
-        const before = made.length;
-        assert.deepEqual([...parse(bytes(FUNCTIONS))], wanted);
-        assert.equal(made.length, before + 1);
-        assert.throws(() => parser.push(bytes(FUNCTIONS)), /has thrown before/);
-    });
-});
+// ---- the module
 
 test("a memory that cannot grow is a RangeError, and the next parse works", () => {
     const script = `
@@ -409,5 +414,8 @@ test("the parser from each kind of source", async () => {
         const { parse } = await load(source);
         assert.equal([...parse(bytes(FUNCTIONS))].length, 5);
     }
-    await assert.rejects(load(new Response("", { status: 404 })), /status 404/);
+    for (const status of [300, 400, 403, 404, 410, 500, 503, 599]) {
+        await assert.rejects(load(new Response(wasm, { status })), new RegExp(`status ${status}`));
+    }
+    assert.equal([...(await load(new Response(wasm, { status: 201 }))).parse(bytes(HEADER))].length, 2);
 });

@@ -16,6 +16,8 @@ const SECTIONS = [
     "\x0a\x09\x01\x07\0\x20\0\x20\0\x6a\x0b", "\0\x09\x08.comment",
 ];
 const MODULE = Buffer.from("\0asm\x01\0\0\0" + SECTIONS.join(""), "latin1");
+// The files at the address of the examples. The second names a source map.
+const FILES = { "/a.wasm": MODULE, "/b.wasm": Buffer.concat([MODULE, Buffer.from("\0\x1c\x10sourceMappingURL\x0ab.wasm.map", "latin1")]) };
 const readme = readFileSync(join(PACKAGE, "README.md"), "utf8");
 const blocks = [...readme.matchAll(/```(js|sh)\n(.*?)```\n\n```text\n(.*?)```/gs)];
 const examples = blocks.map(([, language, code, wanted]) => ({ language, code, wanted }));
@@ -43,11 +45,11 @@ test("README.md has no example without its output", () => {
 
 for (const [number, { language, code, wanted }] of examples.entries()) {
     test(`example ${number + 1} of README.md`, async () => {
-        const folder = place(), server = createServer((request, response) => response.end(MODULE));
+        const folder = place(), server = createServer((request, response) => response.end(FILES[request.url]));
         await new Promise(resolve => server.listen(0, resolve));
-        const url = `http://localhost:${server.address().port}/a.wasm`;
+        const address = `http://localhost:${server.address().port}/`;
         try {
-            writeFileSync(join(folder, "example.mjs"), code.replace("https://example.org/a.wasm", url));
+            writeFileSync(join(folder, "example.mjs"), code.replace(/https:\/\/example\.org\/(?=\w\.wasm)/, address));
             const words = language === "js" ? ["example.mjs"] : [join(PACKAGE, "cli.js"), ...code.trim().split(" ").slice(2)];
             assert.deepEqual(await run(process.execPath, words, folder), { status: 0, stdout: wanted, stderr: "" });
         } finally {

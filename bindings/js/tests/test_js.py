@@ -18,35 +18,43 @@ import common
 import modelled
 import packages
 import programs
+import suites
 from modules import mutants
 
 TSC = ["--strict", "--noEmit", "--target", "es2022", "--module", "es2022", "--moduleResolution", "node"]
 OLDEST_NODE = 18
 MUTANTS = 20_000
 
-# The entry of the package, the platform of a bundle, and whether the bundle needs the module beside it.
-BUNDLES = [("pulleynavy", "browser", True), ("pulleynavy", "node", True), ("pulleynavy/inline", "browser", False), ("pulleynavy/inline", "node", False)]
-BUNDLED = 'import { load } from "%s";\nconst { parse } = await load(globalThis.source);\nconsole.log([...parse(new Uint8Array(0))][0].fault);\n'
+# The entry of the package, the platform and the format of a bundle, and whether the bundle needs the module beside it. A script for browsers in
+# the format iife does not know where it is.
+BUNDLES = [(entry, platform, form, entry == "pulleynavy") for entry in ("pulleynavy", "pulleynavy/inline") for platform, form in
+           (("browser", "esm"), ("browser", "iife"), ("node", "esm"), ("node", "cjs"))]
+BUNDLED = 'import { load } from "%s";\nload(globalThis.source).then(({ parse }) => console.log([...parse(new Uint8Array(0))][0].fault), console.log);\n'
+# Node's fetch reads no files, so a bundle for browsers gets the bytes.
+WITH_BYTES = 'import { readFileSync } from "node:fs"; globalThis.source = readFileSync("pulleynavy.wasm"); await import("./%s");'
 
 
 def bundled(node, place, folder):
     """Bundles programs by esbuild for browsers and for Node, and runs them in a folder without the package. Returns how many."""
-    for number, (entry, platform, needs_module) in enumerate(BUNDLES):
+    for number, (entry, platform, form, needs_module) in enumerate(BUNDLES):
         project, alone = (os.path.join(folder, "%s%d" % (word, number)) for word in ("bundled", "alone"))
         os.makedirs(os.path.join(project, "node_modules"))
         os.makedirs(alone)
         os.symlink(place, os.path.join(project, "node_modules", "pulleynavy"))
         common.write(os.path.join(project, "use.js"), BUNDLED % entry)
-        path = os.path.join(alone, "use.mjs")
-        common.must(["esbuild", "use.js", "--bundle", "--format=esm", "--platform=" + platform, "--log-limit=0", "--outfile=" + path], folder=project)
+        name, what = "use.mjs" if form == "esm" else "use.cjs", "a bundle of %s for %s as %s" % (entry, platform, form)
+        path = os.path.join(alone, name)
+        common.must(["esbuild", "use.js", "--bundle", "--format=" + form, "--platform=" + platform, "--log-level=error", "--outfile=" + path], folder=project)
         if platform == "browser" and "node:" in common.read(path):
-            raise common.Failed("a bundle of %s for browsers imports modules of Node" % entry)
+            raise common.Failed(what + " imports modules of Node")
         if needs_module:
             shutil.copy(os.path.join(place, "pulleynavy.wasm"), alone)
-        # Node's fetch reads no files, so a bundle for browsers gets the bytes.
-        bytes_of = 'import { readFileSync } from "node:fs"; globalThis.source = readFileSync("pulleynavy.wasm"); await import("./use.mjs");'
-        words = ["--input-type=module", "-e", bytes_of] if needs_module and platform == "browser" else ["use.mjs"]
-        common.require(common.must([node, *words], folder=alone) == "UNEXPECTED_EOF\n", "a bundle of %s for %s finds no fault" % (entry, platform))
+        takes_bytes = needs_module and platform == "browser"
+        words = ["--input-type=module", "-e", WITH_BYTES % name] if takes_bytes else [name]
+        said = common.must([node, *words], folder=alone)
+        common.require(said == "UNEXPECTED_EOF\n", "%s says %r" % (what, said))
+        if takes_bytes and form == "iife":
+            common.require("import pulleynavy/inline" in common.must([node, name], folder=alone), what + " does not say what it lacks")
     return len(BUNDLES)
 
 
@@ -81,7 +89,7 @@ def tried(given, folder, node):
     streams, mutated = (modelled.write(os.path.join(folder, name), of) for name, of in (("streams.jsonl", rows), ("mutated.jsonl", changed)))
     text = common.must([node, "--test"], folder=place, env={"PULLEYNAVY_STREAMS": streams})
     passed = sum(int(line.split()[-1]) for line in text.splitlines() if line.startswith(("# pass ", "ℹ pass ")))
-    said = "%d tests, %d streams (seed %d), %d with changed bytes" % (passed, len(rows), given.seed, len(changed))
+    said = "%d tests, %d streams (seed %d), %d with changed bytes" % (suites.passed("js", passed), len(rows), given.seed, len(changed))
     common.must([node, "--expose-gc", "tests/streams.test.js"], folder=place, env={"PULLEYNAVY_STREAMS": mutated})
     if wasm64:
         flags = ["--experimental-wasm-memory64"]

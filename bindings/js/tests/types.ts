@@ -15,7 +15,7 @@ function shown(event: Event): string {
         case "start": return `${event.index}`;
         case "data count": return `${event.count}`;
         case "code": return `${event.count} ${event.size}`;
-        case "body": return `${event.end - event.start}`;
+        case "body": return `${event.end - event.start} ${event.bytes?.length}`;
         case "custom": return `${event.name} ${event.contents && contents(event.contents)}`;
         case "unknown": return `${event.id}`;
         case "end": return `${event.offset}`;
@@ -53,6 +53,7 @@ function contents(it: Contents | Fault): string {
         case "name": return it.subsections.map(one => (one.kind === "names" ? one.names.length : one.kind)).join();
         case "linking": return it.subsections.map(one => (one.kind === "symbols" ? one.items.length : one.kind)).join();
         case "relocations": return it.relocations.map(one => (one.kind === "fault" ? one.number ?? 0 : addend(one) + one.offset)).join();
+        case "target features": return it.features.map(one => (one.kind === "fault" ? one.text : `${one.prefix}${one.name}`)).join();
         case "core stack": return it.frames.flatMap(frame => frame.locals.map(value)).join();
         default: return it.kind;
     }
@@ -72,7 +73,7 @@ function value(it: CoreValue): string {
 export async function all(response: Response, module: WebAssembly.Module): Promise<string[]> {
     const { parse, Parser, ParserStream, strip, edit, encodeCustom } = await load();
     for (const source of [new URL("https://localhost/pulleynavy.wasm"), "pulleynavy.wasm", response, module]) await load(source);
-    const parser = new Parser({ features: MEMORY64, items: false }), lines: string[] = [];
+    const parser = new Parser({ features: MEMORY64, items: false, bytes: true }), lines: string[] = [];
     for (const event of parse(new Uint8Array(8))) lines.push(shown(event));
     lines.push(...parser.push(new ArrayBuffer(8)).map(shown), ...parser.finish().map(shown));
     const events: ReadableStream<Event> | undefined = response.body?.pipeThrough(new ParserStream());

@@ -9,7 +9,8 @@ import shutil
 import sys
 from typing import Callable
 
-from . import Module, ParseError, Section, __version__, strip
+from . import ALL_FEATURES, Module, ParseError, Section, __version__, events, load, strip
+from .module import check_event
 
 NAMES = ["custom", "type", "import", "function", "table", "memory", "global", "export", "start", "element", "code", "data", "data count", "tag"]
 MALFORMED, WRONG_USE, FAILED = 1, 2, 3
@@ -56,7 +57,7 @@ def main(words: list[str] | None = None) -> int:
 def run(given: argparse.Namespace) -> int:
     """Runs a command. Returns its exit status."""
     if given.command == "check":
-        return max([attempt(path, lambda stream: Module(stream).check()) for path in given.files])
+        return max([attempt(path, check) for path in given.files])
     return attempt(given.file, lambda stream: show(given, stream))
 
 
@@ -66,6 +67,12 @@ def read(path: str) -> bytes:
         return sys.stdin.buffer.read()
     with open(path, "rb") as file:
         return file.read()
+
+
+def check(stream: bytes) -> None:
+    """Reads all items, and raises the first fault of the stream."""
+    for event in events(io.BytesIO(stream)):
+        check_event(event, ALL_FEATURES, load())
 
 
 def show(given: argparse.Namespace, stream: bytes) -> None:

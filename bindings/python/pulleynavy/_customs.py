@@ -2,13 +2,14 @@
 # SPDX-License-Identifier: Apache-2.0 OR MIT
 from __future__ import annotations
 
+import collections
 import dataclasses
 import functools
-from typing import Any, Iterator
+from typing import Any, Callable, Iterable, Iterator
 
 from ._items import Items, Subsection
 from ._values import CustomSection, Dylink, Linking
-from .declared import DylinkId, LinkingId, NameId
+from .declared import CustomKind, DylinkId, LinkingId, NameId
 
 
 @dataclasses.dataclass(frozen=True)
@@ -58,8 +59,7 @@ class Names:
         """The name of the module, or `None`."""
         name = None
         for items in self._parts(NameId.MODULE):
-            name = items.read_name()
-            items.check_name_end()
+            name = _module_name(items)
         return name
 
     @functools.cached_property
@@ -128,6 +128,12 @@ class Names:
         return self._indirect_map(NameId.TAG_PARAMETER)
 
 
+def _module_name(items: Items) -> str:
+    name = items.read_name()
+    items.check_name_end()
+    return name
+
+
 # The field and the reader of each subsection with a known id.
 _DYLINK = {
     DylinkId.MEM_INFO: ("memory", Items.read_dylink_memory),
@@ -166,3 +172,54 @@ def _fields(lists: list[Items], readers: Any) -> dict[str, Any]:
         value = read(part.items)
         found[name] = found.get(name, ()) + value if type(value) is tuple else value
     return found
+
+
+# ---- whether they are well-formed
+
+
+def exhaust(values: Iterable[Any]) -> None:
+    """Reads all values, and keeps none."""
+    collections.deque(values, 0)
+
+
+_INDIRECT = frozenset((NameId.LOCAL, NameId.LABEL, NameId.FIELD, NameId.PARAMETER, NameId.TAG_PARAMETER))
+_DIRECT = frozenset(NameId) - _INDIRECT - {NameId.MODULE}
+
+
+def _check_names(items: Items) -> None:
+    for part in items.name_subsections():
+        if part.id == NameId.MODULE:
+            _module_name(part.items)
+        elif part.id in _INDIRECT:
+            exhaust(part.items.counted().indirect_namings())
+        elif part.id in _DIRECT:
+            exhaust(part.items.counted().namings())
+
+
+def _check_relocations(items: Items) -> None:
+    items.read_number()
+    exhaust(items.counted().relocations())
+
+
+# What reads all of a custom section, by its kind.
+_CHECKS: dict[CustomKind, Callable[[Items], Any]] = {
+    CustomKind.NAME: _check_names,
+    CustomKind.BRANCH_HINTS: lambda items: exhaust(items.counted().branch_hints()),
+    CustomKind.PRODUCERS: lambda items: exhaust(items.counted().producers()),
+    CustomKind.DYLINK0: lambda items: dylink([items]),
+    CustomKind.LINKING: lambda items: linking([items]),
+    CustomKind.RELOC: _check_relocations,
+    CustomKind.CORE: Items.read_core_process,
+    CustomKind.CORE_MODULES: Items.read_core_modules,
+    CustomKind.CORE_INSTANCES: Items.read_core_instances,
+    CustomKind.CORE_STACK: Items.read_core_stack,
+}
+
+
+def check_custom(section: CustomSection, features: int, library: Any) -> None:
+    """Reads all of a known custom section. Raises the `ParseError` of the first malformed item."""
+    items = Items(section.data, section.offset, features, library)
+    if section.name == "target_features":
+        exhaust(items.counted().target_features())
+    elif section.kind in _CHECKS:
+        _CHECKS[section.kind](items)

@@ -4,7 +4,9 @@ from __future__ import annotations
 
 import ctypes
 import dataclasses
+import errno
 import os
+import threading
 from typing import TYPE_CHECKING, Any, BinaryIO, Iterator
 
 from ._library import ALL_FEATURES, bytes_of, fault_of, load
@@ -15,10 +17,15 @@ if TYPE_CHECKING:
 
 
 def binary(piece: Any) -> bytes:
-    """Returns the bytes that a file returned. Raises `TypeError` if it returned a text."""
+    """Returns the bytes that a file returned, which are empty at its end.
+
+    Raises `TypeError` if it returned a text, and `BlockingIOError` if it returned `None`: a non-blocking file has no bytes yet.
+    """
     if isinstance(piece, str):
         raise TypeError('the file is in text mode: open it in binary mode, as open(path, "rb") does')
-    return bytes(piece or b"")
+    if piece is None:
+        raise BlockingIOError(errno.EAGAIN, "the file is non-blocking and has no bytes yet: pass them to a Parser as they arrive")
+    return bytes(piece)
 
 
 @dataclasses.dataclass(frozen=True)
@@ -102,6 +109,8 @@ class Parser:
     Only the bytes of the part that is not complete are kept. The last event is of the kind `END`, after `finish`. Iterating raises
     `ParseError` at the first fault of the stream.
 
+    Several threads may use a parser: one call at a time runs, and the chunks make up the stream in the order in which they are fed.
+
     >>> parser = Parser()
     >>> for chunk in (b"\\0asm\\1\\0", b"\\0\\0\\1", b"\\1\\0"):
     ...     print([event.kind.name for event in parser.feed(chunk)])
@@ -116,21 +125,32 @@ class Parser:
         self._library = library or load()
         self._feed = self._library.pulleynavy_feed_init(0, features)
         self._storage = ctypes.create_string_buffer(1)
-        # The offset where skipping began, and how many bytes of the next chunks are skipped.
-        self._skipped_from, self._skipping, self._is_ended = 0, 0, False
+        # What is skipped of the next chunks: the offset of each part, and how many of its bytes remain.
+        self._skipped: list[tuple[int, int]] = []
+        self._is_ended, self._lock = False, threading.Lock()
 
     def feed(self, chunk: ReadableBuffer) -> Iterator[Event]:
         """Adds the next bytes of the stream, of any buffer. Returns an iterator over the events that are complete.
 
         Raises `ValueError` after `finish`.
         """
-        if self._feed.is_finished:
-            raise ValueError("the stream has been finished")
         given = bytes_of(chunk)
-        passed = min(self._skipping, len(given))
-        self._skipping -= passed
-        self._push(given[passed:])
+        with self._lock:
+            if self._feed.is_finished:
+                raise ValueError("the stream has been finished")
+            self._push(given[self._pass(len(given)) :])
         return iter(self)
+
+    def _pass(self, size: int) -> int:
+        """Passes skipped parts of a chunk of this size. Returns how many of its bytes they have."""
+        passed = 0
+        while self._skipped and passed < size:
+            start, missing = self._skipped.pop(0)
+            here = min(missing, size - passed)
+            passed += here
+            if here < missing:
+                self._skipped.insert(0, (start, missing - here))
+        return passed
 
     def _push(self, piece: bytes) -> None:
         while piece and not self._library.pulleynavy_feed_push(self._feed, self._storage, len(self._storage), piece, len(piece)):
@@ -140,14 +160,15 @@ class Parser:
 
     def finish(self) -> Iterator[Event]:
         """Says that the stream has ended. Returns an iterator over the last events."""
-        self._library.pulleynavy_feed_finish(self._feed)
+        with self._lock:
+            self._library.pulleynavy_feed_finish(self._feed)
         return iter(self)
 
     def skip(self) -> int:
         """Skips the rest of the code section: call it after an event `CODE` or `BODY`. Returns how many bytes are skipped.
 
         The bodies are neither kept nor parsed, and there are no events of them. Elsewhere it returns 0 and skips nothing. If the stream ends
-        within the skipped bytes, the fault is `UNEXPECTED_EOF`, at the first of them.
+        within the skipped bytes, the fault is `UNEXPECTED_EOF`, at the first of them. After `skip_part` of a body it skips the bodies after it.
 
         >>> parser = Parser()
         >>> events = parser.feed(b"\\0asm\\1\\0\\0\\0\\3\\2\\1\\0\\x0a\\4\\1\\2\\0\\x0b")
@@ -158,14 +179,19 @@ class Parser:
         >>> [event.kind.name for event in parser.finish()]
         ['END']
         """
-        feed = self._feed
-        start = feed.parser.offset
-        size = int(self._library.pulleynavy_skip_section(feed.parser))
-        stored = min(size, feed.end - feed.mark)
-        feed.mark += stored
-        if size:
-            self._skipped_from, self._skipping = start, size - stored
+        with self._lock:
+            feed = self._feed
+            start = feed.parser.offset
+            size = int(self._library.pulleynavy_skip_section(feed.parser))
+            stored = min(size, feed.end - feed.mark)
+            feed.mark += stored
+            self._skip_from(start, size - stored)
         return size
+
+    def _skip_from(self, start: int, missing: int) -> None:
+        """Skips a part that begins at an offset and of which this many bytes remain."""
+        if missing:
+            self._skipped.append((start, missing))
 
     def skip_part(self) -> SkippedPart | None:
         """Skips the part that is not complete, if its first fields have come: call it after the events of a chunk. Returns what they say.
@@ -184,29 +210,38 @@ class Parser:
         >>> [event.kind.name for event in parser.feed(bytes(98))], [event.kind.name for event in parser.finish()]
         ([], ['END'])
         """
-        feed, offset = self._feed, self._feed.parser.offset
-        held = feed.end - feed.mark
-        first = ctypes.addressof(self._storage) + feed.mark
-        event = self._library.pulleynavy_skip(feed.parser, first, held)
-        kind = EventKind(event.kind)
-        if kind is EventKind.NEED_MORE:
-            return None
-        name = ctypes.string_at(first + event.at + event.data_offset - event.start - event.name_size, event.name_size)
-        feed.mark = feed.end
-        self._skipped_from, self._skipping = event.start, event.end - offset - held
+        with self._lock:
+            feed, offset = self._feed, self._feed.parser.offset
+            held = feed.end - feed.mark
+            first = ctypes.addressof(self._storage) + feed.mark
+            event = self._library.pulleynavy_skip(feed.parser, first, held)
+            kind = EventKind(event.kind)
+            if kind is EventKind.NEED_MORE:
+                return None
+            name = ctypes.string_at(first + event.at + event.data_offset - event.start - event.name_size, event.name_size)
+            feed.mark = feed.end
+            self._skip_from(event.start, event.end - offset - held)
         return SkippedPart(kind, event.id, event.count, event.start, event.end, name.decode())
 
     def __iter__(self) -> Iterator[Event]:
-        while not self._is_ended:
-            if self._skipping:
-                if self._feed.is_finished:
-                    raise fault_of(self._library, Fault(FaultKind.UNEXPECTED_EOF, 0, 0, self._skipped_from))
-                return
-            event = self._step()
+        while True:
+            with self._lock:
+                event = self._next()
             if event is None:
                 return
-            self._is_ended = event.kind is EventKind.END
             yield event
+
+    def _next(self) -> Event | None:
+        """The next event, or none if it needs more bytes or the last one was returned. Raises the fault of the stream."""
+        if self._is_ended:
+            return None
+        if self._skipped:
+            if self._feed.is_finished:
+                raise fault_of(self._library, Fault(FaultKind.UNEXPECTED_EOF, 0, 0, self._skipped[0][0]))
+            return None
+        event = self._step()
+        self._is_ended = event is not None and event.kind is EventKind.END
+        return event
 
     def _step(self) -> Event | None:
         """The next event, or none if it needs more bytes. Raises the fault of the stream."""
@@ -227,8 +262,8 @@ def events(
 
     `file` is a file that was opened in binary mode, or a path. Memory use is at most three times the size of the largest part and of a chunk.
 
-    Raises `ParseError` at the first fault of the stream, after the events before it; `TypeError` if the file was opened in text mode; and
-    `OSError` if a path can't be opened.
+    Raises `ParseError` at the first fault of the stream, after the events before it; `TypeError` if the file was opened in text mode;
+    `BlockingIOError` if it is non-blocking and has no bytes yet; and `OSError` if a path can't be opened.
 
     >>> import io
     >>> [event.kind.name for event in events(io.BytesIO(b"\\0asm\\1\\0\\0\\0"))]

@@ -6,7 +6,6 @@ import warnings
 from typing import Any, Iterator, NamedTuple
 
 from ._cursor import Cursor, fields
-from ._library import ParseError
 from ._values import (
     ArrayType,
     BranchHint,
@@ -48,7 +47,6 @@ from .declared import (
     DataKind,
     ElementKind,
     ExternalKind,
-    FaultKind,
     HeapKind,
     RelocationKind,
     SymbolFlags,
@@ -316,20 +314,12 @@ class Items(Cursor):
     def target_features(self) -> Iterator[TargetFeature]:
         """Yields the features of the section `target_features` (tool-conventions, Linking, Target Features Section).
 
-        Raises the `ParseError` `LEADING_BYTE` at a prefix that is none, with the byte. The library does not know this section: the text is of
-        this package, and the detail of the code, 255, is none of the library's.
+        A prefix may be any byte.
 
         >>> list(Items(b"\\1+\\4simd", 100).counted().target_features())
         [TargetFeature(prefix='+', name='simd')]
         """
-        for _ in range(self._cursor.remaining):
-            at = self.position
-            if at < len(self.data) and self.data[at] not in b"+-=":
-                text = "invalid leading byte for target feature"
-                raise ParseError(FaultKind.LEADING_BYTE | 255 << 8, self.offset + at, self.data[at], text)
-            prefix = chr(self.read_number())
-            yield TargetFeature(prefix, self.read_text())
-        self._end()
+        return (TargetFeature(chr(one.prefix), self.text(one.name)) for one in self._all("target_features"))
 
     def branch_hints(self) -> Iterator[tuple[int, tuple[BranchHint, ...]]]:
         """Yields the functions of the section `metadata.code.branch_hint`, each with its hints."""

@@ -325,7 +325,7 @@ class Producer(NamedTuple):
 
 
 class TargetFeature(NamedTuple):
-    """A feature of a target: `+` and its name if the module uses it, `-` if no linked module may use it, `=` if all have to."""
+    """A feature of a target: `+` and its name if the module uses it, `-` if no linked module may use it. Other prefixes are kept."""
 
     prefix: str
     name: str

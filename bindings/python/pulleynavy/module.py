@@ -5,9 +5,9 @@ from __future__ import annotations
 import functools
 import io
 import os
-from typing import TYPE_CHECKING, Any, BinaryIO, Iterator, TypeVar
+from typing import TYPE_CHECKING, Any, BinaryIO, Callable, Iterator, TypeVar
 
-from ._customs import Names, dylink, linking
+from ._customs import Names, check_custom, dylink, exhaust, linking
 from ._events import Event, binary, events
 from ._items import Items
 from ._library import ALL_FEATURES, bytes_of, load
@@ -70,7 +70,8 @@ class Module:
         """Reads a whole file: a path, or a file that was opened in binary mode.
 
         Raises `ParseError` at the first fault of the framing; `TypeError` if the file was opened in text mode, or if `file` is the bytes of a module,
-        for which you call `Module`; and `OSError` if a path can't be read.
+        for which you call `Module`; `BlockingIOError` if the file is non-blocking and not all of its bytes have arrived; and `OSError` if a path
+        can't be read.
 
         >>> Module.read(io.BytesIO(b"\\0asm\\1\\0\\0\\0")).sections
         []
@@ -80,23 +81,25 @@ class Module:
         if isinstance(file, (str, os.PathLike)):
             with open(file, "rb") as opened:
                 return cls(opened.read(), features)
-        return cls(binary(file.read()), features)
+        # A non-blocking file may return a part of its bytes: its end is where it returns none.
+        read = file.read
+        return cls(b"".join(iter(lambda: binary(read()), b"")), features)
 
     def check(self) -> None:
-        """Reads the items of all sections and of the known custom sections. Raises `ParseError` at a malformed item. Nothing is validated.
+        """Reads the items of all sections and of the known custom sections, in their order.
+
+        Raises the `ParseError` of the first malformed item. Nothing is validated.
 
         >>> Module(b"\\0asm\\1\\0\\0\\0").check()
         """
-        for name in _ITEMS:
-            getattr(self, name)
-        for name in _SPACES:
-            getattr(self.names, name)
+        for event in self._events:
+            check_event(event, self._features, self._library)
 
     def _lists(self, number: int) -> Iterator[Items]:
         """The items of each section with this id."""
         for event in self._events:
             if event.kind is EventKind.SECTION and event.id == number:
-                yield Items(event.content, event.start, self._features, self._library).skip(event.data_offset - event.start, event.count)
+                yield _list(event, self._features, self._library)
 
     @functools.cached_property
     def is_component(self) -> bool:
@@ -288,12 +291,7 @@ class Module:
         >>> [section.name for section in Module(b"\\0asm\\1\\0\\0\\0\\0\\2\\1a").custom_sections]
         ['a']
         """
-        return [self._custom(event) for event in self._events if event.kind is EventKind.CUSTOM]
-
-    def _custom(self, event: Event) -> CustomSection:
-        name = event.name.encode()
-        kind = CustomKind(self._library.pulleynavy_classify_custom(name, len(name)))
-        return CustomSection(event.name, kind, event.data, event.data_offset)
+        return [_custom(event, self._library) for event in self._events if event.kind is EventKind.CUSTOM]
 
     def _customs(self, kind: CustomKind) -> Iterator[Items]:
         """A cursor over the data of each custom section of this kind."""
@@ -375,9 +373,38 @@ class Module:
         return [items.read_core_stack() for items in self._customs(CustomKind.CORE_STACK)]
 
 
-# The properties that read something, and those of `names`.
-_ITEMS = [name for name, value in vars(Module).items() if isinstance(value, functools.cached_property)]
-_SPACES = [name for name, value in vars(Names).items() if isinstance(value, functools.cached_property)]
+def _list(event: Event, features: int, library: Any) -> Items:
+    """The items of a section."""
+    return Items(event.content, event.start, features, library).skip(event.data_offset - event.start, event.count)
+
+
+def _custom(event: Event, library: Any) -> CustomSection:
+    name = event.name.encode()
+    kind = CustomKind(library.pulleynavy_classify_custom(name, len(name)))
+    return CustomSection(event.name, kind, event.data, event.data_offset)
+
+
+# What reads the items of each section.
+_ITEMS: dict[int, Callable[[Items], Iterator[Any]]] = {
+    SectionId.TYPE: Items.type_groups,
+    SectionId.IMPORT: Items.imports,
+    SectionId.FUNCTION: Items.numbers,
+    SectionId.TABLE: Items.tables,
+    SectionId.MEMORY: Items.memories,
+    SectionId.GLOBAL: Items.globals,
+    SectionId.EXPORT: Items.exports,
+    SectionId.ELEMENT: Items.elements,
+    SectionId.DATA: Items.data_segments,
+    SectionId.TAG: Items.tags,
+}
+
+
+def check_event(event: Event, features: int, library: Any) -> None:
+    """Reads the items of a section, or the data of a known custom section. Raises the `ParseError` of the first malformed item."""
+    if event.kind is EventKind.SECTION:
+        exhaust(_ITEMS[event.id](_list(event, features, library)))
+    elif event.kind is EventKind.CUSTOM:
+        check_custom(_custom(event, library), features, library)
 
 
 def _merged(pairs: Iterator[tuple[Key, tuple[Value, ...]]]) -> dict[Key, tuple[Value, ...]]:

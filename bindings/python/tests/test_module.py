@@ -76,6 +76,11 @@ ZERO = b"\x41\0\x0b"
 FUNCREF = ValueType(TypeKind.REF, True, HeapKind.FUNC)
 
 
+def leb(value: int) -> bytes:
+    """A number in LEB128."""
+    return bytes([value]) if value < 128 else bytes([value & 0x7F | 0x80]) + leb(value >> 7)
+
+
 def load_tests(loader: unittest.TestLoader, tests: unittest.TestSuite, pattern: str | None) -> unittest.TestSuite:
     own = (pulleynavy._cursor, pulleynavy._customs, pulleynavy._events, pulleynavy._items, pulleynavy._library, pulleynavy._values)
     for module in (pulleynavy, pulleynavy.module, *own):
@@ -172,6 +177,17 @@ class Items(unittest.TestCase):
             malformed.exports
         self.assertEqual(caught.exception.offset, 8 + 4 + len(content) - 2)
 
+    def test_a_malformed_item_at_each_end_of_a_batch(self) -> None:
+        for place in (1, 63, 64, 4094, 4095, 4096, 4097, 8191, 8192):
+            item, count = b"\1a\0\0", 8200
+            content = leb(count) + item * (place - 1) + b"\1a\5\0" + item * (count - place)
+            exports = next(Module(HEADER + b"\7" + leb(len(content)) + content)._lists(7)).exports()
+            found: list[Export] = []
+            with self.assertRaises(ParseError) as caught:
+                for one in exports:
+                    found.append(one)
+            self.assertEqual((len(found), caught.exception.offset), (place - 1, 8 + 1 + 3 + 2 + 4 * (place - 1) + 2))
+
     def test_entries_out_of_order(self) -> None:
         names = pulleynavy.Items(b"\2\1\1a\1\1b", 100).counted().namings()
         with self.assertRaises(Fault) as caught:
@@ -213,6 +229,16 @@ class Types(unittest.TestCase):
         for index in (-1, 4):
             with self.assertRaises(IndexError):
                 module.function_body(index)
+
+    def test_exact_imports_are_functions(self) -> None:
+        # An exact function, a tag and a function; then a function that the module defines.
+        imports = b"\2\x14\3\1m\1e\x20\0\1m\1t\4\0\0\1m\1f\0\0"
+        module = Module(HEADER + self.SECTION + imports + b"\3\2\1\0\x0a\4\1\2\0\x0b")
+        self.assertEqual([one.kind for one in module.imports], [ExternalKind.FUNC_EXACT, ExternalKind.TAG, ExternalKind.FUNC])
+        self.assertEqual([module.function_body(index) is None for index in range(3)], [True, True, False])
+        self.assertEqual({str(module.function_type(index)) for index in range(3)}, {"(i32, (ref null func)) -> (i64)"})
+        with self.assertRaises(IndexError):
+            module.function_body(3)
 
     def test_a_malformed_type_and_trailing_bytes(self) -> None:
         for section, kind, offset in ((b"\1\2\1\x40", FaultKind.LEADING_BYTE, 11), (b"\1\5\1\x60\0\0\0", FaultKind.SIZE_MISMATCH, 14)):
@@ -260,15 +286,13 @@ class Customs(unittest.TestCase):
         module = self.custom(b"target_features", b"\3+\4simd-\7atomics=\1x")
         self.assertEqual(module.target_features, [TargetFeature("+", "simd"), TargetFeature("-", "atomics"), TargetFeature("=", "x")])
         # The data begins at offset 26.
-        cases = [(b"\1*\1x", FaultKind.LEADING_BYTE, 27), (b"\1", FaultKind.UNEXPECTED_EOF, 27), (b"\1+\2x", FaultKind.UNEXPECTED_EOF, 29)]
+        cases = [(b"\1", FaultKind.UNEXPECTED_EOF, 27), (b"\1+\2x", FaultKind.UNEXPECTED_EOF, 29)]
         cases += [(b"\1+\1xy", FaultKind.SIZE_MISMATCH, 30), (b"\0y", FaultKind.SIZE_MISMATCH, 27), (b"", FaultKind.UNEXPECTED_EOF, 26)]
         for data, kind, offset in cases:
             with self.assertRaises(ParseError) as caught:
                 self.custom(b"target_features", data).target_features
             self.assertEqual((caught.exception.kind, caught.exception.offset), (kind, offset))
-        with self.assertRaises(ParseError) as caught:
-            self.custom(b"target_features", b"\1*\1x").target_features
-        self.assertEqual((caught.exception.number, caught.exception.code), (42, 25 + 255 * 256))
+        self.assertEqual(self.custom(b"target_features", b"\2*\1x\xff\1y").target_features, [TargetFeature("*", "x"), TargetFeature("\xff", "y")])
         self.assertEqual(Module(HEADER).target_features, [])
 
     def test_sections_that_are_not_there(self) -> None:
@@ -561,6 +585,13 @@ class Streams(unittest.TestCase):
         with self.assertRaises(Fault):
             pulleynavy.strip(HEADER + b"\x80")
 
+    def test_strip_of_streams_of_each_size(self) -> None:
+        names = b"\0\5\4name"
+        for size in (0, 1 << 16, 1 << 20, (1 << 20) + 1, 1 << 24):
+            other = b"\0" + leb(2 + size) + b"\1x" + bytes(size)
+            self.assertEqual(pulleynavy.strip(HEADER + other + names + other, keep_names=True), HEADER + names)
+            self.assertEqual(pulleynavy.strip(HEADER + other + names + other), HEADER)
+
     def test_edit(self) -> None:
         types = b"\1\1\0"
         stream = HEADER + b"\0\2\1a" + types + b"\0\3\1bx\0\2\1a"
@@ -602,6 +633,7 @@ class Streams(unittest.TestCase):
         self.assertEqual(pulleynavy.encode_custom("", b""), b"\0\1\0")
         self.assertEqual(pulleynavy.encode_custom("", bytearray(126)), b"\0\x7f\0" + bytes(126))
         self.assertEqual(pulleynavy.encode_custom("a", bytes(126)), b"\0\x80\1\1a" + bytes(126))
+        self.assertEqual(pulleynavy.encode_custom("é\u20ac\U0001f600", b"yz"), b"\0\x0c\x09\xc3\xa9\xe2\x82\xac\xf0\x9f\x98\x80yz")
 
 
 class Copies(unittest.TestCase):
@@ -696,7 +728,7 @@ class Program(unittest.TestCase):
         cases = {
             b"\7\4\1\1a\5": "invalid leading byte for external kind: 5 (at offset 0xd)",
             b"\0\x09\4name\1\2\1\5": "unexpected end-of-file (at offset 0x13)",
-            b"\0\x12\x0ftarget_features\1*": "invalid leading byte for target feature: 42 (at offset 0x1b)",
+            b"\0\x12\x0ftarget_features\1*": "unexpected end-of-file (at offset 0x1c)",
         }
         with tempfile.TemporaryDirectory() as folder:
             paths = [os.path.join(folder, str(number)) for number in range(len(cases))]
@@ -705,6 +737,28 @@ class Program(unittest.TestCase):
             done = self.run_with("check", *paths)
         self.assertEqual((done.returncode, done.stdout), (1, ""))
         self.assertEqual(done.stderr.splitlines(), [f"{path}: {text}" for path, text in zip(paths, cases.values())])
+
+    def test_check_of_good_and_bad_files(self) -> None:
+        """The exit status is the greatest of all files, in any order."""
+        with tempfile.TemporaryDirectory() as folder:
+            good, bad, missing = (os.path.join(folder, name) for name in ("good", "bad", "missing"))
+            pathlib.Path(good).write_bytes(FUNCTIONS)
+            pathlib.Path(bad).write_bytes(HEADER + b"\7\4\1\1a\5")
+            for paths, status in (((good, good), 0), ((bad, good), 1), ((good, bad), 1), ((good, bad, good), 1), ((missing, bad, good), 3), ((bad, missing), 3)):
+                done = self.run_with("check", *paths)
+                lines = [line.split(": ")[0] for line in done.stderr.splitlines()]
+                self.assertEqual((done.returncode, done.stdout, lines), (status, "", [path for path in paths if path != good]))
+
+    def test_check_prints_the_first_fault_of_a_stream(self) -> None:
+        """That of an item comes before that of a section after it, and sections come in their order."""
+        malformed = b"\7\4\1\1a\5"
+        producers, core = b"\0\x0a\x09producers", b"\0\x06\4core\1"
+        for sections, offset in ((malformed + b"\x80", 13), (core + producers, 15), (producers + core, 20), (core + malformed, 15), (malformed + core, 13)):
+            with tempfile.NamedTemporaryFile() as file:
+                file.write(HEADER + sections)
+                file.flush()
+                done = self.run_with("check", file.name)
+            self.assertEqual((done.returncode, done.stderr.rstrip().rpartition(" ")[2]), (1, f"{offset:#x})"))
 
     def test_dump_runs_the_program_on_the_path(self) -> None:
         words = [sys.executable, "-m", "pulleynavy", "dump", "--names", "a b"]
@@ -740,8 +794,8 @@ class Program(unittest.TestCase):
                 self.assertEqual((child.stderr.read(), child.wait()), (b"", 3))
 
 
-# Starts Python as on another system, and passes the remaining arguments to the program.
-ELSEWHERE = """import ctypes, os, runpy, sys
+# Starts Python as on another system, and passes the remaining arguments to the program. What Python imports is that of this system.
+ELSEWHERE = """import argparse, ctypes, os, platform, runpy, shutil, sys
 sys.platform = sys.argv[1]
 sys.argv[1:] = sys.argv[2:]
 runpy.run_module("pulleynavy", run_name="__main__", alter_sys=True)
