@@ -1,0 +1,114 @@
+//! The check that the result is the source, but for what rules removed or wrote.
+use crate::Fault;
+use crate::lexer::{Kind, Origin, Token, tokens};
+use crate::pattern::Pattern;
+use crate::rules::{Rule, rules};
+use crate::text::Text;
+use std::collections::BTreeMap;
+
+/// What each rule removed and wrote, in tokens.
+pub type Counts = BTreeMap<&'static str, (usize, usize)>;
+
+/// Checks a file: the tokens of the result, in order, are those of the source, but for those that a rule removed or wrote.
+///
+/// # Errors
+///
+/// The first token for which it does not hold, also if the text of the result has other tokens.
+pub fn check(text: &Text) -> Result<Counts, Fault> {
+    let mut counts = Counts::new();
+    let mut next = 0;
+    for (at, token) in text.live.iter().enumerate() {
+        match token.origin {
+            Origin::Written(rule) => counts.entry(rule).or_default().1 += 1,
+            Origin::Source(index) => {
+                removed(text, next..index, &mut counts)?;
+                if index < next || text.removed[index].is_some() || text.source[index].text != token.text {
+                    return Err(text.fault(at, format!("`{}` is not the token of the source that it should be", token.text)));
+                }
+                next = index + 1;
+            }
+        }
+    }
+    removed(text, next..text.source.len(), &mut counts)?;
+    same(text)?;
+    for rule in rules() {
+        shapes(text, rule)?;
+    }
+    Ok(counts)
+}
+
+// Checks that what a rule removed and wrote has the shapes that the rule may remove and write.
+fn shapes(text: &Text, rule: &Rule) -> Result<(), Fault> {
+    let all = [("remove", removed_runs(text, rule.name), rule.removes), ("write", written_runs(text, rule.name), rule.writes)];
+    for (verb, runs, shapes) in all {
+        let shapes: Vec<Pattern> = if runs.is_empty() { vec![] } else { shapes.iter().map(|shape| Pattern::new(shape)).collect() };
+        for run in runs {
+            let line = run[0].line;
+            let named = Text::of(run.into_iter().map(named).collect());
+            if !is_made_of(&named, 0, &shapes) {
+                let words: Vec<&str> = named.live.iter().map(|token| token.text.as_str()).collect();
+                let why = format!("the rule `{}` may not {verb} `{}`", rule.name, words.join(" "));
+                return Err(Fault { path: text.path.clone(), line, why });
+            }
+        }
+    }
+    Ok(())
+}
+
+// A token as the shapes name it: what is no Rust, comments and lifetimes by their kind.
+fn named(token: &Token) -> Token {
+    let name = match token.kind {
+        Kind::Comment => "COMMENT",
+        Kind::Doc => "DOC",
+        Kind::Clause => "CLAUSE",
+        Kind::Ghost => "GHOST",
+        Kind::Lifetime => "LIFETIME",
+        _ => &token.text,
+    };
+    Token { text: name.into(), ..token.clone() }
+}
+
+// Whether the tokens from this place on are what these patterns match, one after the other.
+fn is_made_of(text: &Text, at: usize, shapes: &[Pattern]) -> bool {
+    at == text.live.len() || shapes.iter().filter_map(|shape| shape.matches(text, at)).any(|found| found.end > at && is_made_of(text, found.end, shapes))
+}
+
+// Counts tokens of the source that are not in the result. A rule must have removed each.
+fn removed(text: &Text, range: std::ops::Range<usize>, counts: &mut Counts) -> Result<(), Fault> {
+    for index in range {
+        let Some(rule) = text.removed[index] else {
+            let token = &text.source[index];
+            return Err(Fault { path: text.path.clone(), line: token.line, why: format!("no rule removed `{}`", token.text) });
+        };
+        counts.entry(rule).or_default().0 += 1;
+    }
+    Ok(())
+}
+
+// Checks that the text of the result has the tokens of the result.
+fn same(text: &Text) -> Result<(), Fault> {
+    let plain = |token: &Token| token.text.clone();
+    let found = tokens(&text.path, &text.rendered())?;
+    let is_same = found.iter().map(plain).eq(text.live.iter().map(plain));
+    if is_same { Ok(()) } else { Err(text.fault(0, "the text of the result has other tokens")) }
+}
+
+/// The runs of tokens that a rule removed, with nothing kept between them. What other rules removed does not part a run.
+pub fn removed_runs<'a>(text: &'a Text, rule: &str) -> Vec<Vec<&'a Token>> {
+    let mut runs = vec![vec![]];
+    for (token, removed) in text.source.iter().zip(&text.removed) {
+        match removed {
+            Some(by) if *by == rule => runs.last_mut().expect("one run at least").push(token),
+            Some(_) => {}
+            None => runs.push(vec![]),
+        }
+    }
+    runs.retain(|run| !run.is_empty());
+    runs
+}
+
+/// The runs of tokens that a rule wrote.
+pub fn written_runs<'a>(text: &'a Text, rule: &'static str) -> Vec<Vec<&'a Token>> {
+    let runs = text.live.chunk_by(|one, other| one.origin == other.origin);
+    runs.filter(|run| run[0].origin == Origin::Written(rule)).map(|run| run.iter().collect()).collect()
+}
