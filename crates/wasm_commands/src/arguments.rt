@@ -81,14 +81,25 @@ fn split_attached(word: &str) -> Parts<'_>
 {
     match word.as_bytes() {
         [b'-', b'-', ..] => split_at_equals(word),
-        [b'-', b'o', _, ..] => Parts {
-            name: "-o",
-            value: word.get(2..),
-        },
+        [b'-', b'o', third, ..] => split_after_letter(word, *third),
         _ => Parts {
             name: word,
             value: None,
         },
+    }
+}
+
+// Splits `-oVALUE`, unless the value would begin with `=`: who writes that means no file of such a name.
+fn split_after_letter(word: &str, third: u8) -> Parts<'_> {
+    if third == b'=' {
+        return Parts {
+            name: word,
+            value: None,
+        };
+    }
+    Parts {
+        name: "-o",
+        value: word.get(2..),
     }
 }
 

@@ -20,12 +20,12 @@ const PRIVATE: u32 = 0o600;
 const KEPT: u32 = 0o1777;
 
 // Who may use a file.
-#[derive(Clone, Copy)]
+#[derive(Drop)]
 struct Access {
     // The owner and the group, if they are not the caller's.
     owner: Option<u32>,
     group: Option<u32>,
-    mode: u32,
+    permissions: Permissions,
 }
 
 /// A file that is to replace another one.
@@ -64,17 +64,24 @@ fn access_for(rt: &HostRuntime, input: &str, target: &str) -> Option<Access> {
         Ok(known) => Some(Access {
             owner: Some(known.uid()),
             group: Some(known.gid()),
-            mode: known.mode() & KEPT,
+            permissions: kept_of(known.permissions()),
         }),
         Err(_) => match fs::metadata(rt, input) {
             Ok(known) if known.is_file() => Some(Access {
                 owner: None,
                 group: None,
-                mode: known.mode() & KEPT,
+                permissions: kept_of(known.permissions()),
             }),
             _ => None,
         },
     }
+}
+
+// Returns what of these permissions is kept.
+fn kept_of(mut permissions: Permissions) -> Permissions {
+    let mode = permissions.mode();
+    permissions.set_mode(mode & KEPT);
+    permissions
 }
 
 // Gives a file its owner, as far as the system allows, and its permissions.
@@ -82,7 +89,7 @@ fn grant(rt: &HostRuntime, file: &File, name: &str, access: Access) -> io::Resul
     if chown(rt, name, access.owner, access.group).is_err() {
         let _ = chown(rt, name, None, access.group);
     }
-    file.set_permissions(Permissions::from_mode(access.mode))
+    file.set_permissions(access.permissions)
 }
 
 // Has a file that is written take the place of another one.
@@ -101,10 +108,10 @@ fn replace(
 }
 
 // Returns how a file is created that is written: for its owner alone, if its permissions are known.
-fn creating(access: Option<Access>) -> OpenOptions {
+fn creating(is_known: bool) -> OpenOptions {
     let mut options = OpenOptions::new();
     options.write(true).create_new(true);
-    if access.is_some() {
+    if is_known {
         options.mode(PRIVATE);
     }
     options
@@ -156,7 +163,7 @@ impl<'a> Replacement<'a> {
             });
         }
         let access = access_for(rt, input, target.as_str());
-        let (file, temporary) = create_beside(rt, alloc, target.as_str(), &creating(access))?;
+        let (file, temporary) = create_beside(rt, alloc, target.as_str(), &creating(access.is_some()))?;
         Ok(Replacement {
             rt,
             file,

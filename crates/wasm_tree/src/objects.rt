@@ -85,7 +85,7 @@ impl<W: Sink> Objects<W> {
     }
 
     /// Creates a tree of objects about a file, with names for items if there are any. If the name of the file is given,
-    /// each object has it as the member `file`.
+    /// the last member of each object is `file`, which has it.
     ///
     /// ```rattle
     /// let file = String::from_str(alloc, "a.wasm")?;
@@ -93,7 +93,7 @@ impl<W: Sink> Objects<W> {
     /// out.line(1, "import");
     /// out.write_out();
     /// let output = out.into_output();
-    /// let wanted = b"{\"level\":1,\"file\":\"a.wasm\",\"line\":\"import\"}\n";
+    /// let wanted = b"{\"level\":1,\"line\":\"import\",\"file\":\"a.wasm\"}\n";
     /// assert_eq!(rt; output.written(), wanted.as_slice());
     /// ```
     pub fn of_file(
@@ -240,13 +240,13 @@ impl<W: Sink> Objects<W> {
     fn begin_item(&mut self, level: usize, offset: u64)
         ensures { Adds (objects self.old) (objects self.new) }
     {
+        self.put_file();
         let start = ItemStart {
             spot: self.spot,
             level: level as u64,
             offset,
         };
         self.short(&start, Spot::Ended);
-        self.put_file();
     }
 
     // Ends the line, and begins an object with its level.
@@ -255,13 +255,15 @@ impl<W: Sink> Objects<W> {
     {
         self.end();
         self.member("level", Value::Number(level as u64));
-        self.put_file();
     }
 
-    // Puts the name of the file, if it is known.
+    // Puts the name of the file at the end of an object, if one is begun and the name is known.
     fn put_file(&mut self)
         ensures { Adds (objects self.old) (objects self.new) }
     {
+        if let Spot::Outside = self.spot {
+            return;
+        }
         let file = self.file.take();
         if let Some(name) = &file {
             self.member("file", Value::Quoted(name.as_str()));
@@ -422,6 +424,7 @@ impl<W: Sink> Tree for Objects<W> {
 
     #[tactic(auto, using(crate::proofs::MemberTexts::end_leads))]
     fn end(&mut self) {
+        self.put_file();
         self.short(&object_end_of(self.spot), Spot::Outside);
     }
 

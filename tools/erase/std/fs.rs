@@ -43,17 +43,25 @@ impl OpenOptions {
         OpenOptions(::std::fs::OpenOptions::new())
     }
 
-    pub fn write(mut self, on: bool) -> Self {
+    pub fn write(&mut self, on: bool) -> &mut Self {
         self.0.write(on);
         self
     }
 
-    pub fn create_new(mut self, on: bool) -> Self {
+    pub fn create_new(&mut self, on: bool) -> &mut Self {
         self.0.create_new(on);
         self
     }
 
-    pub fn open(self, _rt: &HostRuntime, name: &str) -> io::Result<File> {
+    /// Sets the permissions of a file that is created, where files have them.
+    #[cfg_attr(not(unix), allow(unused_variables))]
+    pub fn mode(&mut self, mode: u32) -> &mut Self {
+        #[cfg(unix)]
+        ::std::os::unix::fs::OpenOptionsExt::mode(&mut self.0, mode);
+        self
+    }
+
+    pub fn open(&self, _rt: &HostRuntime, name: &str) -> io::Result<File> {
         self.0.open(name)
     }
 }
