@@ -219,6 +219,20 @@ const CUSTOMS: [Row; 18] = [
     ),
 ];
 
+// A section with an unknown id is no fault.
+#[test]
+fn warns_of_unknown_sections(rt: HostRuntime) -> Result<(), Fail> {
+    let stream = b"\0asm\x01\0\0\0\x0e\x02\0\0\x7f\0";
+    let text = b"0xa: warning: unknown section id: 14\n0xe: warning: unknown section id: 127\n";
+    let alloc = rt.alloc();
+    checks(&rt, alloc, ALL, stream, Ended::End, (false, text))?;
+    let quiet = Asked {
+        is_quiet: true,
+        ..ALL
+    };
+    checks(&rt, alloc, quiet, stream, Ended::End, (false, b""))
+}
+
 #[test]
 fn finds_faults_in_custom_sections(rt: HostRuntime) -> Result<(), Fail> {
     all_checked(&rt, rt.alloc(), &CUSTOMS)

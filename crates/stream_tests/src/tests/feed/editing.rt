@@ -34,6 +34,16 @@ fn edited<A: Allocator>(alloc: A, stream: &[u8], edits: &[Edit<'_>]) -> Option<R
     Some(edit(alloc, stream, edits))
 }
 
+// Whether these bytes are as they were.
+fn are_ones(bytes: &[u8]) -> bool {
+    for byte in bytes {
+        if *byte != 1 {
+            return false;
+        }
+    }
+    true
+}
+
 // The stream after the edits is this, in memory of its own, in other memory, and while it is read.
 fn makes(rt: &impl Abort, alloc: Global, edits: &[Edit<'_>], wanted: &[u8]) {
     let bytes = edited(alloc, STREAM, edits).expect(rt, "too large");
@@ -58,6 +68,9 @@ fn makes(rt: &impl Abort, alloc: Global, edits: &[Edit<'_>], wanted: &[u8]) {
             &edits.len(),
         );
         same_at(rt, out.get(..wanted.len()), Some(wanted), &edits.len());
+        // No byte after the result changes.
+        let rest = out.get(wanted.len()..).expect(rt, "too long");
+        same_at(rt, are_ones(rest), true, &edits.len());
         for piece in [1, 2, 7, 100] {
             let mut input = SliceSource::new(STREAM);
             let mut output = BoundedSink::new(alloc, 100).expect(rt, "out of memory");
@@ -138,6 +151,16 @@ fn edits_in_turn(rt: HostRuntime) {
         ],
         b"\0asm\x01\0\0\0\x01\x01\0\0\x02\x01b",
     );
+}
+
+// There may be any number of edits.
+#[test]
+fn makes_many_edits(rt: HostRuntime) {
+    let mut many = [Edit::Remove("none"); 12];
+    many[3] = Edit::Append(C);
+    many[11] = Edit::Remove("a");
+    let edited = b"\0asm\x01\0\0\0\x01\x01\0\0\x03\x01bB\0\x05\x01cxyz";
+    makes(&rt, rt.alloc(), &many, edited);
 }
 
 // The section is a prefix of these bytes, followed by its data.
