@@ -1,5 +1,6 @@
 -- How the arguments of a command are read: options and operands in any order, as GNU programs read them.
-use Rattle.std.specs.Prelude.{ℕ, Bool, true, false, ◌==◌, ◌&&◌, not, List, [], ◌∷◌, codes, bytes_eq, drop, map, nat_eq, nat_lt}
+use Rattle.std.specs.Prelude.{ℕ, Bool, true, false, ◌==◌, ◌&&◌, not, List, [], ◌∷◌, codes, bytes_eq}
+use Rattle.std.specs.Prelude.{drop, map, nat_eq, nat_lt}
 use Rattle.std.specs.Prelude.{length, flat_map, Option, Some, None, Result, Ok, Err, if◌then◌else◌}
 use Rattle.std.specs.List.{after_first, before_first, list_any, position_or_len}
 use Rattle.wasm_commands.specs.Options.{accepts_option, is_same, option_named, takes_of}

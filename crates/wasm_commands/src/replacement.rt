@@ -163,7 +163,12 @@ impl<'a> Replacement<'a> {
             });
         }
         let access = access_for(rt, input, target.as_str());
-        let (file, temporary) = create_beside(rt, alloc, target.as_str(), &creating(access.is_some()))?;
+        let (file, temporary) = create_beside(
+            rt,
+            alloc,
+            target.as_str(),
+            &creating(access.is_some()),
+        )?;
         Ok(Replacement {
             rt,
             file,

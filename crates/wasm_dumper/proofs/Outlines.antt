@@ -99,7 +99,8 @@ both_true : (a b : Bool) → a && b ≡ true → (a ≡ true) × (b ≡ true)
 both_true true b e = (refl, e)
 both_true false b e = cc
 
-unread : (rows : List (List ℕ × (Window → Result Known FaultAt))) (name : List ℕ) (w : Window) → list_any (λ row. bytes_eq name row.0) rows ≡ false
+unread : (rows : List (List ℕ × (Window → Result Known FaultAt))) (name : List ℕ) (w : Window)
+    → list_any (λ row. bytes_eq name row.0) rows ≡ false
     → starts_with nat_eq name (codes "reloc.") ≡ false → read_by_name rows name w ≡ Ok unknown
 unread [] name w e n = ap (λ (b : Bool). if b then relocations_in w else Ok unknown) n
 unread (row ∷ rows) name w e n =

@@ -112,6 +112,16 @@ impl<W: Sink> Faults<W> {
         self.output.put_long(b"\n");
     }
 
+    // Writes that the id of a section is unknown, unless the tree is quiet.
+    fn warn(&mut self, id: u8, offset: u64)
+        ensures adds { Adds (faults self.old) (faults self.new) }
+        ensures found { FindsNone (found_by self.old) (found_by self.new) }
+    {
+        if !self.is_quiet {
+            self.put_warning(id, offset);
+        }
+    }
+
     // Writes where the items are.
     fn put_place(&mut self)
         ensures goes { GoesOn self.old.output self.new.output }
@@ -211,12 +221,7 @@ impl<W: Sink> Tree for Faults<W> {
         match within {
             Within::Stream => self.place = Place::Stream,
             Within::Section(name) => self.place = Place::Section(name),
-            Within::Unknown(id, offset) => {
-                self.place = Place::Stream;
-                if !self.is_quiet {
-                    self.put_warning(id, offset);
-                }
-            }
+            Within::Unknown(id, offset) => self.warn(id, offset),
             Within::Custom(name) => match String::from_str(self.alloc, name) {
                 Ok(name) => self.place = Place::Custom(name),
                 Err(_) => self.output.out_of_memory(),

@@ -112,8 +112,7 @@ const ROWS: [Row; 12] = [
 ];
 
 // Standard input can be read only once.
-const TWICE: &[u8] =
-    b"pulleynavy add: '-' can be read only once\nTry 'pulleynavy add --help'.\n";
+const TWICE: &[u8] = b"pulleynavy add: '-' can be read only once\nTry 'pulleynavy add --help'.\n";
 
 #[test]
 fn reads_standard_input_once(rt: HostRuntime) -> Result<(), Fail> {

@@ -54,7 +54,8 @@ const ROWS: [Row; 11] = [
     ),
 ];
 
-const OBJECTS: &[u8] = b"{\"event\":\"version\",\"range\":[0,8],\"num\":1,\"encoding\":\"module\",\"file\":\"-\"}
+const OBJECTS: &[u8] =
+    b"{\"event\":\"version\",\"range\":[0,8],\"num\":1,\"encoding\":\"module\",\"file\":\"-\"}
 {\"event\":\"section\",\"range\":[10,12],\"id\":3,\"name\":\"function\",\"count\":1,\"file\":\"-\"}
 {\"level\":1,\"at\":11,\"space\":\"func\",\"number\":0,\"index\":5,\"file\":\"-\"}
 {\"event\":\"section\",\"range\":[14,18],\"id\":10,\"name\":\"code\",\"count\":1,\"size\":3,\"file\":\"-\"}
@@ -64,14 +65,16 @@ const OBJECTS: &[u8] = b"{\"event\":\"version\",\"range\":[0,8],\"num\":1,\"enco
 {\"event\":\"end\",\"offset\":26,\"file\":\"-\"}
 ";
 
-const ESCAPED: &[u8] = b"{\"event\":\"version\",\"range\":[0,8],\"num\":1,\"encoding\":\"module\",\"file\":\"-\"}
+const ESCAPED: &[u8] =
+    b"{\"event\":\"version\",\"range\":[0,8],\"num\":1,\"encoding\":\"module\",\"file\":\"-\"}
 {\"event\":\"section\",\"range\":[10,25],\"id\":7,\"name\":\"export\",\"count\":2,\"file\":\"-\"}
 {\"level\":1,\"at\":11,\"name\":\"a\\\"b\",\"kind\":\"func\",\"index\":0,\"file\":\"-\"}
 {\"level\":1,\"at\":17,\"name\":\"\\\\\\u000a\\u0001\xc3\xa9\",\"kind\":\"global\",\"index\":0,\"file\":\"-\"}
 {\"event\":\"end\",\"offset\":25,\"file\":\"-\"}
 ";
 
-const SIGNED: &[u8] = b"{\"event\":\"version\",\"range\":[0,8],\"num\":1,\"encoding\":\"module\",\"file\":\"-\"}
+const SIGNED: &[u8] =
+    b"{\"event\":\"version\",\"range\":[0,8],\"num\":1,\"encoding\":\"module\",\"file\":\"-\"}
 {\"event\":\"section\",\"range\":[10,32],\"id\":0,\"name\":\"custom\",\"custom_name\":\"reloc.CODE\",\"data_offset\":21,\"file\":\"-\"}
 {\"level\":1,\"line\":\"section\",\"name\":\"reloc.CODE\",\"section\":3,\"range\":[21,32],\"entries\":[22,32],\"count\":2,\"file\":\"-\"}
 {\"level\":2,\"at\":23,\"type\":\"R_WASM_MEMORY_ADDR_LEB\",\"offset\":33,\"index\":73,\"addend\":-4,\"file\":\"-\"}
