@@ -213,6 +213,15 @@ def names(page, folder, path):
         require(wanted in said, "no row %r: %s" % (wanted, said))
 
 
+def features(page, folder):
+    """The features of `target_features` are rows, which say how the module uses each."""
+    stream = module(custom("target_features", vector([b"+\4simd", b"-\7atomics", b"=\1x", b"*\1y"])))
+    with page.tall():
+        page.start(common.write(os.path.join(folder, "features.wasm"), stream))
+        said = [" ".join(filter(None, row["texts"][:3])) for row in page.run("return openAll()") if row["level"] > 1]
+    same(said, ["simd used", "atomics not allowed beside this file", "x required", "y prefix 42"], "the features of a target")
+
+
 def letters(page, folder):
     """Each byte is shown in hexadecimal and, if it is a visible character of ASCII, as that."""
     stream = module(custom("all bytes", bytes(range(256))))
@@ -555,6 +564,7 @@ def tried(browser, given, made, folder):
     said = [streams(page, folder, given)]
     quiet(page)
     names(page, folder, named)
+    features(page, folder)
     letters(page, folder)
     for path in (named, given.wasm):
         keys(page, path)
