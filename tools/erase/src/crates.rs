@@ -4,6 +4,7 @@ use crate::rules::module_of;
 use crate::text::Text;
 use crate::{Fault, erase};
 use std::collections::{BTreeMap, HashSet};
+use std::ffi::OsStr;
 use std::fs;
 use std::path::{Path, PathBuf};
 use std::rc::Rc;
@@ -132,12 +133,28 @@ impl Erased {
 
 /// Writes the modules that the erased sources take for `std` and `bitflags`.
 pub fn write_std(folder: &Path) -> std::io::Result<()> {
-    fs::create_dir_all(folder.join("std"))?;
-    for entry in fs::read_dir(Path::new(env!("CARGO_MANIFEST_DIR")).join("std"))? {
-        let from = entry?.path();
-        let Some(name) = from.file_name() else { continue };
-        let to = if name == "bitflags.rs" { folder.join(name) } else { folder.join("std").join(name) };
-        fs::copy(&from, to)?;
+    for entry in fs::read_dir(stand_in())? {
+        let name = entry?.file_name();
+        if name != "core.rs" && name != "bitflags.rs" {
+            copy(&name, &folder.join("std").join(&name))?;
+        }
     }
-    Ok(())
+    copy("bitflags.rs".as_ref(), &folder.join("bitflags.rs"))
+}
+
+/// Writes those of these modules that need no allocator and no system.
+pub fn write_core(folder: &Path) -> std::io::Result<()> {
+    copy("bitflags.rs".as_ref(), &folder.join("bitflags.rs"))?;
+    copy("core.rs".as_ref(), &folder.join("std").join("mod.rs"))?;
+    ["convert.rs", "simd.rs"].into_iter().try_for_each(|name| copy(name.as_ref(), &folder.join("std").join(name)))
+}
+
+// The folder of these modules.
+fn stand_in() -> PathBuf {
+    Path::new(env!("CARGO_MANIFEST_DIR")).join("std")
+}
+
+fn copy(name: &OsStr, to: &Path) -> std::io::Result<()> {
+    fs::create_dir_all(to.parent().unwrap_or(to))?;
+    fs::copy(stand_in().join(name), to).map(|_| ())
 }
