@@ -9,6 +9,7 @@ pub mod fs;
 mod host;
 pub mod io;
 mod methods;
+pub mod os;
 pub mod path;
 pub mod process;
 pub mod simd;

@@ -42,7 +42,7 @@ const METHODS: [(&str, &str); 4] =
     [("to_vec_with", "ToVecWith"), ("to_string_with", "ToStringWith"), ("repeat_with", "RepeatWith"), ("concat_with", "ConcatWith")];
 
 // Traits of `std` and `bitflags`, whose methods are called where nothing has their names.
-const TRAITS: [&str; 8] = ["AsSlice", "Debug", "Flags", "Hash", "IsTerminal", "Read", "ToString", "Write"];
+const TRAITS: [&str; 11] = ["AsSlice", "Debug", "Flags", "Hash", "IsTerminal", "MetadataExt", "OpenOptionsExt", "PermissionsExt", "Read", "ToString", "Write"];
 
 fn words(tokens: &[Token]) -> HashSet<String> {
     let is_part = |c: char| c == '_' || c.is_ascii_alphanumeric();
