@@ -21,15 +21,6 @@ EXAMPLE = re.compile(r"^[ \t]*//[/!] ?```rattle$", re.M)
 RUNS = (["list"], ["list", "--json"], ["dump", "--bytes", "--names"], ["dump", "--json"], ["check"], ["strip"])
 
 
-def copied(clone):
-    """Copies the files of the repository, without what was built."""
-    listed = subprocess.run(["git", "ls-files", "-z"], cwd=common.TOP, stdout=subprocess.PIPE, check=True).stdout.decode().split("\0")
-    for name in filter(None, listed):
-        path = os.path.join(clone, name)
-        os.makedirs(os.path.dirname(path), exist_ok=True)
-        shutil.copy2(os.path.join(common.TOP, name), path)
-
-
 def number_of_examples():
     """How many examples the doc comments have, without those of the C library, which cargo does not build."""
     paths = [path for crate in common.crates() if crate != "wasm_c" for path in common.files_of(crate) if path.endswith(".rt")]
@@ -95,7 +86,7 @@ def main():
         return common.NO_PROGRAM
     with tempfile.TemporaryDirectory() as folder:
         clone = os.path.join(folder, "clone")
-        copied(clone)
+        cargo.copied(clone)
         settings = environment(folder)
         wrong = tested(clone, settings) or judged(clone, settings) or installed(clone, folder, settings)
     if wrong:

@@ -92,8 +92,8 @@ impl Sources {
         Ok(seen)
     }
 
-    /// Erases a crate: `library` is what its examples call the crate that has its module.
-    pub fn erase(&self, name: &str, library: &str, into: &mut Erased) -> Result<(), Fault> {
+    /// Erases a crate: `root` is the path of the module that has its module, and `library` what its examples call the crate with it.
+    pub fn erase(&self, name: &str, root: &str, library: &str, into: &mut Erased) -> Result<(), Fault> {
         let folder = self.folder(name);
         let seen = self.seen(name)?;
         for path in files(&folder)? {
@@ -107,6 +107,7 @@ impl Sources {
             let mut text = Text::new(&shown, module_of(name), is_root, &read(&path)?)?;
             text.sees.clone_from(&seen);
             text.traits = Rc::clone(&self.traits);
+            text.root = root.into();
             text.library = library.into();
             for (rule, (removed, written)) in erase(&mut text)? {
                 let count = into.counts.entry(rule).or_default();

@@ -13,7 +13,7 @@ fn main() -> ExitCode {
             }
             ExitCode::SUCCESS
         }
-        [flag, top, folder] if flag == "--crate" => ended(library(Path::new(top), Path::new(folder))),
+        [flag, top, folder] if flag == "--crate" => ended(erase::library::write(Path::new(top), Path::new(folder))),
         [top, folder, library, crates @ ..] if !crates.is_empty() => ended(run(Path::new(top), Path::new(folder), library, crates)),
         _ => {
             eprintln!("usage: erase --rules\n       erase --crate CHECKOUT FOLDER\n       erase CHECKOUT FOLDER LIBRARY CRATE..");
@@ -26,7 +26,7 @@ fn run(top: &Path, folder: &Path, library: &str, crates: &[String]) -> Result<()
     let sources = Sources::new(top).map_err(|fault| fault.to_string())?;
     let mut erased = Erased::default();
     for name in crates {
-        sources.erase(name, library, &mut erased).map_err(|fault| fault.to_string())?;
+        sources.erase(name, "crate", library, &mut erased).map_err(|fault| fault.to_string())?;
     }
     erased.write(folder).map_err(|error| error.to_string())?;
     for (rule, (removed, written)) in &erased.counts {
@@ -43,12 +43,4 @@ fn ended(result: Result<(), String>) -> ExitCode {
             ExitCode::FAILURE
         }
     }
-}
-
-// Writes the modules of the crate `pulleynavy`, and prints the items that declare them.
-fn library(top: &Path, folder: &Path) -> Result<(), String> {
-    let (erased, modules) = erase::library::library(top).map_err(|fault| fault.to_string())?;
-    erased.write(folder).and_then(|()| erase::crates::write_core(folder)).map_err(|error| error.to_string())?;
-    print!("{modules}");
-    Ok(())
 }

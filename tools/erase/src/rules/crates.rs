@@ -19,7 +19,7 @@ pub(super) const RULES: &[Rule] = &[
     Rule {
         name: "modules",
         removes: &["$name"],
-        writes: &["$root::", "$root::$module", "::$module"],
+        writes: &["$root::", "$root::$module", "$root::$outer::", "$root::$outer::$module", "::$module", "::$outer::$module"],
         says: "Crates become modules of one crate, named without `wasm_`, and so do `std` and `bitflags`.",
         source: "use crate::error::Error;\nuse wasm_frames::Frame;\nuse std::fmt;\npub(crate) fn f() -> std::fmt::Result {}",
         result: "use crate::base::error::Error;\nuse crate::frames::Frame;\nuse crate::std::fmt;\npub(crate) fn f() -> crate::std::fmt::Result {}",
@@ -28,7 +28,12 @@ pub(super) const RULES: &[Rule] = &[
     Rule {
         name: "prelude",
         removes: &[],
-        writes: &["use $root::std::prelude::$name;", "use $root::std::prelude::{$$names};"],
+        writes: &[
+            "use $root::std::prelude::$name;",
+            "use $root::std::prelude::{$$names};",
+            "use $root::$outer::std::prelude::$name;",
+            "use $root::$outer::std::prelude::{$$names};",
+        ],
         says: "A file imports what it names of the prelude of Rattle that Rust's has not, or has otherwise.",
         source: "// Lists.\nuse std::fmt;\n\nfn f(list: Vec<u8>) {}",
         result: "// Lists.\nuse crate::std::prelude::Vec;\nuse std::fmt;\n\nfn f(list: Vec<u8>) {}",
@@ -112,7 +117,9 @@ pub fn imported(text: &Text) -> Vec<Import> {
         }
         let is_leaf = is_import && text.live[at].kind == Kind::Word && [",", "}", ";"].contains(&text.at(at + 1));
         if is_leaf {
-            let module = if text.is(start + 1, "crate") { text.at(start + 4).to_string() } else { String::new() };
+            // The path begins with `crate` and perhaps the module that has all others.
+            let outer = start + if text.is(start + 4, "proved") { 7 } else { 4 };
+            let module = if text.is(start + 1, "crate") { text.at(outer).to_string() } else { String::new() };
             let name = if text.is(at - 1, "as") { text.at(at - 2) } else { text.at(at) };
             let is_public = start > 0 && text.is(start - 1, "pub");
             found.push(Import { module, name: name.into(), alias: text.at(at).into(), is_public });
@@ -171,7 +178,7 @@ fn modules(text: &mut Text) -> Result<(), Fault> {
         let is_path = text.is(at + 1, ":") && text.is(at + 2, ":") && !(at > 1 && text.is(at - 1, ":") && text.is(at - 2, ":"));
         let word = text.at(at);
         let new = match word {
-            "crate" if is_path => format!("crate::{}", text.module),
+            "crate" if is_path => format!("{}::{}", text.root, text.module),
             "std" | "bitflags" if is_path => format!("{}::{word}", text.root),
             _ if is_path && word.starts_with("wasm_") => format!("{}::{}", text.root, module_of(word)),
             _ => {
