@@ -27,7 +27,7 @@ fn written(top: &Path, out: &Path) -> Result<(), String> {
     println!("cargo::rerun-if-changed=crates.txt");
     for name in sources.names().filter(|name| !LEFT_OUT.contains(name)) {
         println!("cargo::rerun-if-changed={}", sources.folder(name).display());
-        sources.erase(name, "pulleynavy_program", &mut erased).map_err(|fault| fault.to_string())?;
+        sources.erase(name, "crate", "pulleynavy_program", &mut erased).map_err(|fault| fault.to_string())?;
         let tests = if is_for_tests(name) { "#[cfg(test)]\n" } else { "" };
         modules += &format!("{tests}pub mod {};\n", erase::rules::module_of(name));
     }

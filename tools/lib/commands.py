@@ -23,7 +23,9 @@ COMMANDS = {
     "try": {
         "tests": ("try_tests", "the tests of tests/ and the benchmark, without proofs"),
         "examples": ("try_examples", "the examples of the doc comments, without proofs"),
-        "c": ("test_c", "the C library, its examples, and the bindings for Rust and Python"),
+        "cargo": ("try_cargo", "the tests and the program that cargo builds of the proved sources, with nothing else"),
+        "rust": ("try_rust", "the crate for Rust programs"),
+        "c": ("test_c", "the C library, its examples, and the binding for Python"),
         "cross": ("try_desktops:cross", "the C library for aarch64, under qemu"),
         "desktops": ("try_desktops", "the C library for Windows, macOS, FreeBSD and riscv64, and its packages"),
         "js": ("test_js", "the JavaScript package in Node and browsers, and bundles of it"),

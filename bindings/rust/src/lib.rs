@@ -26,7 +26,7 @@
 //!
 //! The README has a table of what differs from `wasmparser`, and of what to write instead.
 #![no_std]
-#![deny(unsafe_code, clippy::undocumented_unsafe_blocks)]
+#![forbid(unsafe_code)]
 #![warn(missing_docs)]
 
 #[cfg(feature = "alloc")]
@@ -43,15 +43,11 @@ mod custom;
 mod edits;
 mod error;
 mod fault;
-#[allow(missing_docs, dead_code, unsafe_code)]
-#[rustfmt::skip]
-mod ffi;
 mod flags;
 mod imports;
 mod items;
 mod kinds;
 mod known;
-#[allow(unsafe_code)]
 mod library;
 mod limits;
 mod linking;
@@ -62,6 +58,10 @@ mod numbers;
 mod operators;
 mod parser;
 mod payload;
+#[allow(dead_code, unused_imports, missing_docs, clippy::all, clippy::pedantic)]
+mod proved {
+    include!(concat!(env!("OUT_DIR"), "/proved/mod.rs"));
+}
 mod reader;
 mod relocations;
 mod section;

@@ -8,7 +8,7 @@ Each stream is listed in pieces of 1, 7, 100 and 65,536 bytes and whole, with it
 Its parts are skipped in random orders, and edits have bytes around their results that must not change.
 Random calls of all functions, in any order that the header allows, return for a minute what they return in plain order (tools/lib/sequences.c).
 The package for Python also reads 20,000 streams with changed bytes, and must not make memory grow.
-The examples of the header run too, and Doxygen reads it without a warning. What a machine lacks (a compiler, valgrind, cargo) is said in one line, and the rest is done.
+The examples of the header run too, and Doxygen reads it without a warning. What a machine lacks (a compiler, valgrind) is said in one line, and the rest is done.
 """
 import contextlib
 import itertools
@@ -21,7 +21,6 @@ import sys
 import tempfile
 from concurrent.futures import ThreadPoolExecutor
 
-import cargo
 import common
 import modelled
 import programs
@@ -318,34 +317,6 @@ def with_doxygen(folder):
 # ---- the bindings
 
 
-# Clippy's lints are errors, and a result that nothing else comes from has to be used.
-CLIPPY = ["--", "-D", "warnings", "-D", "clippy::must_use_candidate"]
-
-
-def with_cargo(folder, archive, is_first):
-    """The tests and the examples of the crate for Rust, with its features and without, and programs that call it wasmparser, with warnings as errors.
-    Lints don't depend on the archive."""
-    if not cargo.found():
-        return
-    place = os.path.join(folder, "archive")
-    os.makedirs(place, exist_ok=True)
-    shutil.copy(archive, os.path.join(place, "libwasm_c.a"))
-    settings = {"PULLEYNAVY_LIB": place, "CARGO_TARGET_DIR": os.path.join(folder, "target"), "RUSTFLAGS": "-D warnings"}
-    crate = os.path.join(folder, "rust")
-    cargo.offline(folder)
-    shutil.rmtree(crate, ignore_errors=True)
-    shutil.copytree(os.path.join(common.TOP, "bindings", "rust"), crate, ignore=shutil.ignore_patterns("Cargo.lock", "target"))
-    settings["PULLEYNAVY_GOLDEN"] = common.GOLDEN
-    with_serde = os.path.join(crate, "examples", "json")
-    clippy = is_first and (shutil.which("cargo-clippy") or common.skip("missing: clippy"))
-    for place in (crate, with_serde) if cargo.with_debian(with_serde) else (crate,):
-        for features in ([], ["--no-default-features"]):
-            common.must(["cargo", "test", "--offline", "--quiet", *features], folder=place, env=settings)
-            if clippy:
-                common.must(["cargo", "clippy", "--offline", "--quiet", "--all-targets", *features, *CLIPPY], folder=place, env=settings)
-    common.must(["cargo", "build", "--offline", "--quiet"], folder=os.path.join(crate, "examples", "programs"), env=settings)
-
-
 def with_python(folder, archive, streams, changed, is_first):
     """The module for Python over a shared library, which is made of the archive. `changed` are streams that only it reads. Types don't depend on it."""
     if not common.found("cc"):
@@ -378,7 +349,6 @@ def main():
         differ = [text for test in (*COMPARISONS, under_valgrind) for text in test(built, streams)]
         changed = [(stream, modelled.listed(stream)) for stream in mutants(random.Random(given.seed), [stream for stream, _ in common.golden()], MUTANTS)]
         for number, archive in enumerate(made.values()):
-            with_cargo(folder, archive, number == 0)
             with_python(folder, archive, streams, changed[number :: len(made)], number == 0)
     count = sum(len(paths) for paths in built.values())
     return common.tell(differ, "%d programs, %d streams, %d differ (seed %d)" % (count, len(streams), len(differ), given.seed))

@@ -20,12 +20,12 @@ const PRIVATE: u32 = 0o600;
 const KEPT: u32 = 0o1777;
 
 // Who may use a file.
-#[derive(Drop)]
+#[derive(Clone, Copy)]
 struct Access {
     // The owner and the group, if they are not the caller's.
     owner: Option<u32>,
     group: Option<u32>,
-    permissions: Permissions,
+    mode: u32,
 }
 
 /// A file that is to replace another one.
@@ -64,24 +64,17 @@ fn access_for(rt: &HostRuntime, input: &str, target: &str) -> Option<Access> {
         Ok(known) => Some(Access {
             owner: Some(known.uid()),
             group: Some(known.gid()),
-            permissions: kept_of(known.permissions()),
+            mode: known.mode() & KEPT,
         }),
         Err(_) => match fs::metadata(rt, input) {
             Ok(known) if known.is_file() => Some(Access {
                 owner: None,
                 group: None,
-                permissions: kept_of(known.permissions()),
+                mode: known.mode() & KEPT,
             }),
             _ => None,
         },
     }
-}
-
-// Returns what of these permissions is kept.
-fn kept_of(mut permissions: Permissions) -> Permissions {
-    let mode = permissions.mode();
-    permissions.set_mode(mode & KEPT);
-    permissions
 }
 
 // Gives a file its owner, as far as the system allows, and its permissions.
@@ -89,7 +82,7 @@ fn grant(rt: &HostRuntime, file: &File, name: &str, access: Access) -> io::Resul
     if chown(rt, name, access.owner, access.group).is_err() {
         let _ = chown(rt, name, None, access.group);
     }
-    file.set_permissions(access.permissions)
+    file.set_permissions(Permissions::from_mode(access.mode))
 }
 
 // Has a file that is written take the place of another one.

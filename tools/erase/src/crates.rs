@@ -4,6 +4,7 @@ use crate::rules::module_of;
 use crate::text::Text;
 use crate::{Fault, erase};
 use std::collections::{BTreeMap, HashSet};
+use std::ffi::OsStr;
 use std::fs;
 use std::path::{Path, PathBuf};
 use std::rc::Rc;
@@ -91,8 +92,8 @@ impl Sources {
         Ok(seen)
     }
 
-    /// Erases a crate: `library` is what its examples call the crate that has its module.
-    pub fn erase(&self, name: &str, library: &str, into: &mut Erased) -> Result<(), Fault> {
+    /// Erases a crate: `root` is the path of the module that has its module, and `library` what its examples call the crate with it.
+    pub fn erase(&self, name: &str, root: &str, library: &str, into: &mut Erased) -> Result<(), Fault> {
         let folder = self.folder(name);
         let seen = self.seen(name)?;
         for path in files(&folder)? {
@@ -106,6 +107,7 @@ impl Sources {
             let mut text = Text::new(&shown, module_of(name), is_root, &read(&path)?)?;
             text.sees.clone_from(&seen);
             text.traits = Rc::clone(&self.traits);
+            text.root = root.into();
             text.library = library.into();
             for (rule, (removed, written)) in erase(&mut text)? {
                 let count = into.counts.entry(rule).or_default();
@@ -132,12 +134,28 @@ impl Erased {
 
 /// Writes the modules that the erased sources take for `std` and `bitflags`.
 pub fn write_std(folder: &Path) -> std::io::Result<()> {
-    fs::create_dir_all(folder.join("std"))?;
-    for entry in fs::read_dir(Path::new(env!("CARGO_MANIFEST_DIR")).join("std"))? {
-        let from = entry?.path();
-        let Some(name) = from.file_name() else { continue };
-        let to = if name == "bitflags.rs" { folder.join(name) } else { folder.join("std").join(name) };
-        fs::copy(&from, to)?;
+    for entry in fs::read_dir(stand_in())? {
+        let name = entry?.file_name();
+        if name != "core.rs" && name != "bitflags.rs" {
+            copy(&name, &folder.join("std").join(&name))?;
+        }
     }
-    Ok(())
+    copy("bitflags.rs".as_ref(), &folder.join("bitflags.rs"))
+}
+
+/// Writes those of these modules that need no allocator and no system.
+pub fn write_core(folder: &Path) -> std::io::Result<()> {
+    copy("bitflags.rs".as_ref(), &folder.join("bitflags.rs"))?;
+    copy("core.rs".as_ref(), &folder.join("std").join("mod.rs"))?;
+    ["convert.rs", "simd.rs"].into_iter().try_for_each(|name| copy(name.as_ref(), &folder.join("std").join(name)))
+}
+
+// The folder of these modules.
+fn stand_in() -> PathBuf {
+    Path::new(env!("CARGO_MANIFEST_DIR")).join("std")
+}
+
+fn copy(name: &OsStr, to: &Path) -> std::io::Result<()> {
+    fs::create_dir_all(to.parent().unwrap_or(to))?;
+    fs::copy(stand_in().join(name), to).map(|_| ())
 }

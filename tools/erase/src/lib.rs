@@ -7,7 +7,9 @@
 
 pub mod crates;
 pub mod honesty;
+pub mod leaving;
 pub mod lexer;
+pub mod library;
 pub mod pattern;
 pub mod rules;
 pub mod text;

@@ -1,7 +1,7 @@
 //! Files, by paths that are texts.
 use super::io;
 use super::prelude::{HostRuntime, String};
-pub use ::std::fs::{File, Metadata, Permissions};
+pub use ::std::fs::Metadata;
 
 /// A path that is UTF-8.
 #[derive(Debug)]
@@ -13,8 +13,60 @@ impl PathText {
     }
 }
 
+/// An open file.
+#[derive(Debug)]
+pub struct File(::std::fs::File);
+
+impl File {
+    pub fn metadata(&self) -> io::Result<Metadata> {
+        self.0.metadata()
+    }
+
+    pub fn set_permissions(&self, permissions: Permissions) -> io::Result<()> {
+        self.0.set_permissions(permissions.of(&self.0)?)
+    }
+
+    pub fn sync_all(&self) -> io::Result<()> {
+        self.0.sync_all()
+    }
+}
+
+impl io::Read for File {
+    fn read(&mut self, buffer: &mut [u8]) -> io::Result<usize> {
+        self.0.read(buffer)
+    }
+}
+
+impl io::Write for File {
+    fn write(&mut self, bytes: &[u8]) -> io::Result<usize> {
+        self.0.write(bytes)
+    }
+
+    fn flush(&mut self) -> io::Result<()> {
+        self.0.flush()
+    }
+}
+
+/// Who may use a file, by the bits of its mode. Elsewhere than on Unix, only whether it may be written.
+#[derive(Clone, Copy, Debug)]
+pub struct Permissions(pub(super) u32);
+
+impl Permissions {
+    #[cfg(unix)]
+    fn of(self, _file: &::std::fs::File) -> io::Result<::std::fs::Permissions> {
+        Ok(::std::os::unix::fs::PermissionsExt::from_mode(self.0))
+    }
+
+    #[cfg(not(unix))]
+    fn of(self, file: &::std::fs::File) -> io::Result<::std::fs::Permissions> {
+        let mut permissions = file.metadata()?.permissions();
+        permissions.set_readonly(self.0 & 0o200 == 0);
+        Ok(permissions)
+    }
+}
+
 pub fn open(_rt: &HostRuntime, name: &str) -> io::Result<File> {
-    File::open(name)
+    ::std::fs::File::open(name).map(File)
 }
 
 pub fn canonicalize(_rt: &HostRuntime, name: &str) -> io::Result<PathText> {
@@ -36,7 +88,7 @@ pub fn rename(_rt: &HostRuntime, from: &str, to: &str) -> io::Result<()> {
 
 /// How a file is opened.
 #[derive(Clone, Debug)]
-pub struct OpenOptions(::std::fs::OpenOptions);
+pub struct OpenOptions(pub(super) ::std::fs::OpenOptions);
 
 impl OpenOptions {
     pub fn new() -> Self {
@@ -53,15 +105,7 @@ impl OpenOptions {
         self
     }
 
-    /// Sets the permissions of a file that is created, where files have them.
-    #[cfg_attr(not(unix), allow(unused_variables))]
-    pub fn mode(&mut self, mode: u32) -> &mut Self {
-        #[cfg(unix)]
-        ::std::os::unix::fs::OpenOptionsExt::mode(&mut self.0, mode);
-        self
-    }
-
     pub fn open(&self, _rt: &HostRuntime, name: &str) -> io::Result<File> {
-        self.0.open(name)
+        self.0.open(name).map(File)
     }
 }

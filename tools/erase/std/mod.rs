@@ -1,5 +1,5 @@
 //! What the erased sources take for `std`: collections and texts whose calls return a `Result`, allocators, lanes, and the system.
-pub use ::std::{cell, cmp, fmt, hash, iter, marker, mem, ops, option, result, slice, str};
+pub use core::{cell, cmp, fmt, hash, iter, marker, mem, ops, option, result, slice, str};
 
 pub mod alloc;
 pub mod collections;

@@ -18,7 +18,7 @@ pub(super) const RULES: &[Rule] = &[
         name: "examples",
         removes: &["DOC"],
         writes: &["DOC"],
-        says: "An example becomes a doc test: its code by the other rules, in a function that has the runtime, its allocator, and the names that it sees.",
+        says: "An example becomes a doc test: its code by the other rules, in a function that has the runtime, its allocator, and the names that it sees. In private modules it goes.",
         source: "/// Adds.\n///\n/// ```rattle\n/// assert_eq!(rt; add(1, 2), 3);\n/// ```\nfn add() {}",
         result: "/// Adds.\n///\n/// ```\n/// # use erased::{base::*, std::prelude::*};\n/// # fn main() {\n/// # erased::std::test::run(|rt: HostRuntime| -> \
                  Result<(), erased::std::test::Fail> {\n/// # let alloc = rt.alloc();\n/// assert_eq!(add(1, 2), 3);\n/// # let _ = alloc;\n/// # Ok(())\n/// # });\n\
@@ -60,6 +60,13 @@ fn examples(text: &mut Text) -> Result<(), Fault> {
         }
         let end = (at + 1..text.live.len()).find(|&end| text.live[end].kind != Kind::Doc || parts(text.at(end)).1 == "```");
         let Some(end) = end.filter(|&end| text.live[end].kind == Kind::Doc) else { return Err(text.fault(at, "an example does not end")) };
+        if text.library.is_empty() {
+            // With the empty line over it.
+            let start = if parts(text.at(at - 1)).1.is_empty() { at - 1 } else { at };
+            text.remove(start..end + 1);
+            at = start;
+            continue;
+        }
         let new = example(text, at, end)?;
         let length = new.len();
         text.replace(at..end, new);

@@ -9,7 +9,7 @@ use std::ops::Range;
 pub(super) const RULES: &[Rule] = &[
     Rule {
         name: "imports",
-        removes: &["use $$names;", "$name,", ", $name", "$name", "use $a::$b::{$$names};"],
+        removes: &["use", "$name", "::", "{", "}", ",", ";"],
         writes: &[],
         says: "An import goes whose name the result has not, but for those of traits.",
         source: "use crate::error::{self, Error, Result};\nuse std::{fmt, io::{self, Write}};\nuse std::mem;\n\nfn f() -> Result<u32> {}",
@@ -19,7 +19,7 @@ pub(super) const RULES: &[Rule] = &[
     Rule {
         name: "modules",
         removes: &["$name"],
-        writes: &["$root::", "$root::$module", "::$module"],
+        writes: &["$root::", "$root::$module", "$root::$outer::", "$root::$outer::$module", "::$module", "::$outer::$module"],
         says: "Crates become modules of one crate, named without `wasm_`, and so do `std` and `bitflags`.",
         source: "use crate::error::Error;\nuse wasm_frames::Frame;\nuse std::fmt;\npub(crate) fn f() -> std::fmt::Result {}",
         result: "use crate::base::error::Error;\nuse crate::frames::Frame;\nuse crate::std::fmt;\npub(crate) fn f() -> crate::std::fmt::Result {}",
@@ -28,7 +28,12 @@ pub(super) const RULES: &[Rule] = &[
     Rule {
         name: "prelude",
         removes: &[],
-        writes: &["use $root::std::prelude::$name;", "use $root::std::prelude::{$$names};"],
+        writes: &[
+            "use $root::std::prelude::$name;",
+            "use $root::std::prelude::{$$names};",
+            "use $root::$outer::std::prelude::$name;",
+            "use $root::$outer::std::prelude::{$$names};",
+        ],
         says: "A file imports what it names of the prelude of Rattle that Rust's has not, or has otherwise.",
         source: "// Lists.\nuse std::fmt;\n\nfn f(list: Vec<u8>) {}",
         result: "// Lists.\nuse crate::std::prelude::Vec;\nuse std::fmt;\n\nfn f(list: Vec<u8>) {}",
@@ -42,8 +47,7 @@ const METHODS: [(&str, &str); 4] =
     [("to_vec_with", "ToVecWith"), ("to_string_with", "ToStringWith"), ("repeat_with", "RepeatWith"), ("concat_with", "ConcatWith")];
 
 // Traits of `std` and `bitflags`, whose methods are called where nothing has their names.
-const TRAITS: [&str; 10] =
-    ["AsSlice", "Debug", "Flags", "Hash", "IsTerminal", "MetadataExt", "PermissionsExt", "Read", "ToString", "Write"];
+const TRAITS: [&str; 11] = ["AsSlice", "Debug", "Flags", "Hash", "IsTerminal", "MetadataExt", "OpenOptionsExt", "PermissionsExt", "Read", "ToString", "Write"];
 
 fn words(tokens: &[Token]) -> HashSet<String> {
     let is_part = |c: char| c == '_' || c.is_ascii_alphanumeric();
@@ -67,16 +71,62 @@ fn imports(text: &mut Text) -> Result<(), Fault> {
     let named = words(&used(&text.live));
     let traits = text.traits.clone();
     let is_dropped = |name: &str| !named.contains(name) && !traits.contains(name) && !TRAITS.contains(&name);
+    drop_from(text, &is_dropped, &|text, at| !(at > 0 && [")", "pub"].contains(&text.at(at - 1))));
+    Ok(())
+}
+
+/// Drops names from all imports, and from what is re-exported.
+pub fn drop_imports(text: &mut Text, is_dropped: &dyn Fn(&str) -> bool) {
+    drop_from(text, is_dropped, &|_, _| true);
+}
+
+fn drop_from(text: &mut Text, is_dropped: &dyn Fn(&str) -> bool, is_meant: &dyn Fn(&Text, usize) -> bool) {
     let mut at = 0;
     while at < text.live.len() {
-        let is_import = text.is(at, "use") && !(at > 0 && [")", "pub"].contains(&text.at(at - 1)));
+        let is_import = text.is(at, "use") && is_meant(text, at);
         if is_import {
             let end = (at..text.live.len()).find(|&end| text.is(end, ";")).unwrap_or(at) + 1;
-            drop_names(text, at..end, &is_dropped);
+            drop_names(text, at..end, is_dropped);
         }
         at += usize::from(text.is(at, "use") || !is_import);
     }
-    Ok(())
+}
+
+/// The names of the items of a file that others see.
+pub fn exported(text: &Text) -> Vec<String> {
+    let is_word = |at: &usize| ["fn", "struct", "enum", "trait", "type", "const"].contains(&text.at(*at)) && text.live[*at + 1].kind == Kind::Word;
+    let starts_line = |at: usize| text.is(at, "pub") && !text.live[at].before.ends_with(' ');
+    let is_outer = |at: &usize| starts_line(at.saturating_sub(1)) || text.is(at.saturating_sub(1), ")") && starts_line(at.saturating_sub(4));
+    (0..text.live.len()).filter(is_word).filter(is_outer).map(|at| text.at(at + 1).to_string()).collect()
+}
+
+/// A name that a file imports or re-exports: the module of this crate that has it, empty for the file's own, and what it is called here.
+pub struct Import {
+    pub module: String,
+    pub name: String,
+    pub alias: String,
+    pub is_public: bool,
+}
+
+/// The names that a file imports.
+pub fn imported(text: &Text) -> Vec<Import> {
+    let (mut found, mut start, mut is_import) = (Vec::new(), 0, false);
+    for at in 0..text.live.len() {
+        if text.is(at, "use") {
+            (start, is_import) = (at, true);
+        }
+        let is_leaf = is_import && text.live[at].kind == Kind::Word && [",", "}", ";"].contains(&text.at(at + 1));
+        if is_leaf {
+            // The path begins with `crate` and perhaps the module that has all others.
+            let outer = start + if text.is(start + 4, "proved") { 7 } else { 4 };
+            let module = if text.is(start + 1, "crate") { text.at(outer).to_string() } else { String::new() };
+            let name = if text.is(at - 1, "as") { text.at(at - 2) } else { text.at(at) };
+            let is_public = start > 0 && text.is(start - 1, "pub");
+            found.push(Import { module, name: name.into(), alias: text.at(at).into(), is_public });
+        }
+        is_import &= !text.is(at, ";");
+    }
+    found
 }
 
 // Drops names from an import, and all of it if none remains.
@@ -84,7 +134,8 @@ fn drop_names(text: &mut Text, range: Range<usize>, is_dropped: &dyn Fn(&str) ->
     let mut kept = text.live[range.clone()].to_vec();
     while let Some(at) = (0..kept.len()).rev().find(|&at| is_dropped_leaf(&kept, at, is_dropped)) {
         if kept[at + 1].is(";") {
-            text.remove(range);
+            let start = if range.start > 0 && text.is(range.start - 1, "pub") { range.start - 1 } else { range.start };
+            text.remove(start..range.end);
             return;
         }
         // The path of the name within its braces, and its comma or the one before.
@@ -127,7 +178,7 @@ fn modules(text: &mut Text) -> Result<(), Fault> {
         let is_path = text.is(at + 1, ":") && text.is(at + 2, ":") && !(at > 1 && text.is(at - 1, ":") && text.is(at - 2, ":"));
         let word = text.at(at);
         let new = match word {
-            "crate" if is_path => format!("crate::{}", text.module),
+            "crate" if is_path => format!("{}::{}", text.root, text.module),
             "std" | "bitflags" if is_path => format!("{}::{word}", text.root),
             _ if is_path && word.starts_with("wasm_") => format!("{}::{}", text.root, module_of(word)),
             _ => {

@@ -10,7 +10,7 @@ mod programs;
 
 use crate::Fault;
 use crate::text::Text;
-pub use crates::module_of;
+pub use crates::{Import, drop_imports, exported, imported, module_of};
 
 /// What turns a form of Rattle into Rust.
 pub struct Rule {

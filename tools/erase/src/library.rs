@@ -1,0 +1,76 @@
+//! What the crate `pulleynavy` takes of the proved sources: the parser, the readers of items, edits in memory, and plain structs of numbers, all of
+//! which need no allocator.
+use crate::crates::{Erased, Sources, write_core};
+use crate::leaving::Gone;
+use crate::rules::module_of;
+use crate::text::Text;
+use crate::{Fault, honesty};
+use std::path::Path;
+
+const CRATES: [&str; 10] =
+    ["wasm_base", "wasm_grammar", "wasm_frames", "wasm_items", "wasm_custom", "wasm_text", "wasm_parser", "wasm_streams", "wasm_edits", "wasm_plain"];
+
+/// Of these crates only these files are taken.
+const TAKEN: [(&str, &[&str]); 3] = [
+    ("text", &["mod", "digits", "short_text"]),
+    ("streams", &["mod", "buffer", "cursor", "parser"]),
+    ("edits", &["mod", "editing", "edits", "encoding", "fates", "stripping"]),
+];
+
+/// Files that are not taken.
+const LEFT_OUT: [&str; 6] =
+    ["plain/cursors.rs", "plain/event_batches.rs", "plain/feeding.rs", "plain/flat_imports.rs", "parser/parse_all.rs", "parser/payload.rs"];
+
+/// What allocates, and what is left out with it.
+const ALLOCATES: [&str; 5] = ["AllocError", "AllocFailed", "Allocator", "String", "Vec"];
+
+/// The crate `wasm_feed` re-exports these, and nothing else of it is taken.
+const FEED: &str = "mod feed {\n    pub(crate) use super::edits::{Edit, Keep, NewSection, edit_to, strip_to_front};\n}\n";
+
+fn is_left_out(path: &str) -> bool {
+    let (module, file) = path.split_once('/').unwrap_or_default();
+    let taken = TAKEN.iter().find(|(of, _)| *of == module);
+    LEFT_OUT.contains(&path) || taken.is_some_and(|(_, files)| !files.contains(&file.trim_end_matches(".rs")))
+}
+
+/// Writes the modules of the crate below a folder, whose `mod.rs` declares them.
+///
+/// # Errors
+///
+/// The first fault, or what the system says.
+pub fn write(top: &Path, folder: &Path) -> Result<(), String> {
+    let (erased, modules) = library(top).map_err(|fault| fault.to_string())?;
+    let written = erased.write(folder).and_then(|()| write_core(folder)).and_then(|()| std::fs::write(folder.join("mod.rs"), modules));
+    written.map_err(|error| format!("{}: {error}", folder.display()))
+}
+
+/// The crates that the crate takes something of.
+pub fn crates() -> [&'static str; 10] {
+    CRATES
+}
+
+// Returns the modules of the crate, and the items that declare them.
+fn library(top: &Path) -> Result<(Erased, String), Fault> {
+    let sources = Sources::new(top)?;
+    let mut erased = Erased::default();
+    for name in CRATES {
+        sources.erase(name, "crate::proved", "", &mut erased)?;
+    }
+    let mut gone = Gone::new(&ALLOCATES);
+    gone.files(&mut erased.files, &is_left_out);
+    gone.all(&mut erased.files)?;
+    for text in erased.files.values_mut() {
+        settle(text)?;
+    }
+    let modules = CRATES.map(|name| format!("pub(crate) mod {};\n", module_of(name)));
+    Ok((erased, format!("pub(crate) mod bitflags;\n{}mod std;\n\n{FEED}", modules.concat())))
+}
+
+// Drops the imports that nothing needs any more, and checks the result.
+fn settle(text: &mut Text) -> Result<(), Fault> {
+    for rule in crate::rules::rules().filter(|rule| rule.name == "imports") {
+        text.rule = rule.name;
+        (rule.apply)(text)?;
+    }
+    honesty::check(text).map(|_| ())
+}
