@@ -21,6 +21,7 @@ COMMANDS = {
         "surface": ("compare_surface", "the public items of the crate for Rust with those of wasmparser 0.263.0"),
     },
     "try": {
+        "judges": ("try_judges", "what judges the sources, on sources that are wrong"),
         "tests": ("try_tests", "the tests of tests/ and the benchmark, without proofs"),
         "examples": ("try_examples", "the examples of the doc comments, without proofs"),
         "cargo": ("try_cargo", "the tests and the program that cargo builds of the proved sources, with nothing else"),
