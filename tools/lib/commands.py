@@ -33,6 +33,7 @@ COMMANDS = {
         "documents": ("try_documents", "the programs of docs/CALLING.md, in each language"),
         "page": ("test_page", "the page, in Chromium and Firefox"),
         "packages": ("test_packages", "each package as its user would, and a clone in a system without the toolchain"),
+        "first_proof": ("try_first_proof", "the commands and files of docs/FIRST_PROOF.md"),
         "readme": ("try_readme", "every command and program of README.md, in a new clone"),
     },
     "generate": {
