@@ -17,12 +17,13 @@ import common
 import comparing
 import suites
 
-# Of each check: a file, a text in it and what stands there instead, by regular expression; without a text, the line is added.
+# Of each check: a file, a text in it and what replaces it, by regular expression; without a text, the line is added.
 PLANTS = {
     "layout": ("crates.txt", r"^wasm_rows:.*\n", ""),
     "widths": ("crates/wasm_base/specs/Number.antt", None, "-- " + "a" * 130),
     "labels": ("docs/DUMP.md", None, "See the paper."),
     "links": ("docs/DUMP.md", None, "[Nothing](NOTHING.md)"),
+    "quotes": ("docs/THEOREMS.md", r"pub differ : event ≢ other_event", "pub differ : event ≡ other_event"),
     "edits": ("crates/wasm_text/must-fail/lost_bytes.edit", r"^old: .*$", "old: what stands nowhere"),
     "made": ("docs/man/pulleynavy.1", r"components", "componentz"),
     "version": ("VERSION", r"^\d+", "9"),
