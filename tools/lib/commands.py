@@ -34,6 +34,7 @@ COMMANDS = {
         "page": ("test_page", "the page, in Chromium and Firefox"),
         "packages": ("test_packages", "each package as its user would, and a clone in a system without the toolchain"),
         "first_proof": ("try_first_proof", "the commands and files of docs/FIRST_PROOF.md"),
+        "scale": ("try_scale", "the first command of docs/SCALE.md, on 800 files"),
         "readme": ("try_readme", "every command and program of README.md, in a new clone"),
     },
     "generate": {
