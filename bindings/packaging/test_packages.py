@@ -78,6 +78,18 @@ def is_found(place, prefix, request):
     return "found: 1" in common.must(["cmake", "-S", folder, "-B", folder + "/out", "-DCMAKE_PREFIX_PATH=" + prefix], env={"PULLEYNAVY_LIB": None})
 
 
+def other_pythons():
+    """The Pythons from 3.8 on that this machine has besides Debian's: those on the path, and those of pyenv."""
+    pyenv = os.environ.get("PYENV_ROOT", os.path.expanduser("~/.pyenv"))
+    names = [shutil.which("python3.%d" % minor) for minor in range(8, 30)]
+    known = {}
+    for path in [*filter(None, names), *sorted(glob.glob(os.path.join(pyenv, "versions", "3.*", "bin", "python3")))]:
+        done = subprocess.run([path, "-c", "import ctypes, sys; print(sys.version_info[1])"], stdout=subprocess.PIPE, stderr=subprocess.DEVNULL, text=True)
+        if done.returncode == 0 and int(done.stdout) >= 8:
+            known.setdefault(int(done.stdout), path)
+    return [path for minor, path in sorted(known.items()) if not os.path.exists("/usr/bin/python3.%d" % minor)]
+
+
 class System:
     """A system of a release of Debian that debootstrap makes with these packages, without network and with nothing of this machine."""
 
@@ -178,12 +190,15 @@ class Trial:
         self.expect(self.run(python, program, self.file), "the wheel")
         # The tests run in a folder that has nothing else.
         shutil.copytree(packages.source("bindings", "python", "tests"), self.place + "/suite/tests")
-        suites.passed_in_python(self.run(python, "-m", "unittest", "discover", "-s", "tests", "-t", ".", folder=self.place + "/suite", more={"PULLEYNAVY_STREAMS": common.GOLDEN}))
+        shutil.unpack_archive(wheel, self.place + "/wheel", "zip")
+        for other, settings in [(python, {}), *((path, {"PYTHONPATH": self.place + "/wheel"}) for path in other_pythons())]:
+            settings["PULLEYNAVY_STREAMS"] = common.GOLDEN
+            said = self.run(other, "-B", "-m", "unittest", "discover", "-s", "tests", "-t", ".", folder=self.place + "/suite", more=settings)
+            print("wheels: %d tests with %s" % (suites.passed_in_python(said), self.run(other, "--version").strip()), flush=True)
         said = self.run(os.path.join(os.path.dirname(python), "pulleynavy"), "list", self.file)
         require("import (1)" in said, "pulleynavy list does not list the sections")
         # The wheel says that it is for musl too, so its library is loaded there.
         if common.found("musl-gcc"):
-            shutil.unpack_archive(wheel, self.place + "/wheel", "zip")
             self.run("musl-gcc", write(self.place + "/loader.c", source("loader.c")), "-o", "loader")
             self.run(self.place + "/loader", one(self.place + "/wheel/pulleynavy/libpulleynavy.so.*"))
         python = self.venv("of_sdist", sources, "--system-site-packages")
