@@ -41,6 +41,15 @@ fn an_expression_is_its_window(rt: HostRuntime) -> Result<(), Fail> {
 }
 
 #[test]
+fn an_expression_of_a_long_number(rt: HostRuntime) -> Result<(), Fail> {
+    let mut reader = BinaryReader::new(b"\x41\xff\xff\xff\xff\x7f\x0b", 0);
+    let expression = reader.read::<ConstExpr<'_>>()?;
+    same(&rt, expression.range(), 0..7);
+    same(&rt, reader.original_position(), 7);
+    Ok(())
+}
+
+#[test]
 fn a_function_reference(rt: HostRuntime) {
     let any_function = RefType {
         nullable: true,
