@@ -358,9 +358,9 @@ fn set_all<S: System, W: Write, E: Sink>(
 ) -> Result<u8, AllocError>
     requires { texts words.now ≡ values_in option.Set (reads_of arguments.now) }
     // Proved: `producers --set` reads the file that is named, or standard input, and writes it with
-    //   a `producers` section in place of the first one, or at the end, to the output or to the file
-    //   of `--output`, which is replaced only if all was written; or it says why not. What the new
-    //   section holds is not stated [`set_all` (`SetsProducers`)]
+    //   a new `producers` section in place of each that it has, or at the end, to the output or to the
+    //   file of `--output`, which is replaced only if all was written; or it says why not. What the
+    //   new section holds is not stated [`set_all` (`SetsProducers`)]
     ensures { SetsProducers S.System S.Input.Source S.Output.Sink system.now (reads_of arguments.now)
         (writer_device W.contents output.old output.new) output.new.forwarded
         (device_of E.taken E.has_failed errors.old errors.new) result }
