@@ -108,8 +108,9 @@ is_input file = bytes_eq file (codes "-")
 -- whether standard input is among the files of these additions twice, or once more if it was asked for already
 abbrev pub is_asked_again : (asked : Bool) → (additions : List (List ℕ × List ℕ)) → Bool
 is_asked_again asked [] = false
-is_asked_again true (addition ∷ additions) = if is_input addition.1 then true else is_asked_again true additions
-is_asked_again false (addition ∷ additions) = is_asked_again (is_input addition.1) additions
+is_asked_again asked (addition ∷ additions) =
+    if is_input addition.1 then (if asked then true else is_asked_again true additions)
+    else is_asked_again asked additions
 
 -- a name and a file, or a name and the data of that file
 abbrev pub parts_of : Addition → List ℕ × List ℕ

@@ -70,13 +70,15 @@ fn reads_input_twice(additions: &[Addition<'_>], file: &str) -> bool
     ensures { result ≡ is_asked_again (is_input file.now) (map parts_of additions.now) }
 {
     let mut is_asked = file == "-";
-    for addition in additions {
+    let mut rest = additions;
+    'additions: while let [addition, more @ ..] = rest {
         if addition.file == "-" {
             if is_asked {
                 return true;
             }
             is_asked = true;
         }
+        rest = more;
     }
     false
 }
