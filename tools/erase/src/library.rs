@@ -21,7 +21,7 @@ const TAKEN: [(&str, &[&str]); 3] = [
 const LEFT_OUT: [&str; 6] =
     ["plain/cursors.rs", "plain/event_batches.rs", "plain/feeding.rs", "plain/flat_imports.rs", "parser/parse_all.rs", "parser/payload.rs"];
 
-/// What allocates, and what is left out with it.
+/// What allocates. It is left out, with what needs it.
 const ALLOCATES: [&str; 5] = ["AllocError", "AllocFailed", "Allocator", "String", "Vec"];
 
 /// The crate `wasm_feed` re-exports these, and nothing else of it is taken.
@@ -78,7 +78,7 @@ const MARKED: [(&str, &str, &str); 3] = [
     ("base/reader.rs", "read_septets", "#[inline(always)]"),
 ];
 
-// Functions of so many tokens may be inlined into the caller's crate.
+// Functions of up to this many tokens may be inlined into the caller's crate.
 const SHORT: usize = 150;
 
 // Marks functions that rustc may inline, and those of the list. Returns how many are of the list.
