@@ -277,6 +277,8 @@ impl<'a> Iterator for IntoImportsWithOffsets<'a> {
                 return Some(import);
             }
             match self.groups.next()? {
+                // Almost every group is one import.
+                Ok(Imports::Single(offset, import)) => return Some(Ok((offset, import))),
                 Ok(group) => self.group = group.into_iter(),
                 Err(error) => return Some(Err(error)),
             }

@@ -126,6 +126,17 @@ impl Text {
         self.live.splice(at..at, written);
     }
 
+    /// Writes tokens on a line of their own over the one at this place.
+    pub fn write_line(&mut self, at: usize, text: &str) {
+        let before = self.live[at].before.clone();
+        let count = self.live.len();
+        self.write(at, text);
+        let written = self.live.len() - count;
+        self.live[at].before.clone_from(&before);
+        let blanks = before.rsplit('\n').next().unwrap_or_default();
+        self.live[at + written].before = format!("\n{blanks}");
+    }
+
     /// Tokens that the rule writes.
     pub fn written(&self, text: &str, line: usize) -> Vec<Token> {
         let mut written = tokens("a rule", text).unwrap_or_else(|fault| panic!("{}: {fault}", self.rule));
