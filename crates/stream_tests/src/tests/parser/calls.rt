@@ -56,9 +56,14 @@ fn the_end_again_and_again(rt: HostRuntime) {
 }
 
 /// Sections that are begun, and how many bytes are asked for.
-const BEGUN: [(&[u8], usize); 5] = [
+const BEGUN: [(&[u8], usize); 10] = [
     (b"", 1),
+    (b"\0", 3),
+    (b"\0a", 2),
     (b"\0as", 1),
+    (b"\0\x05", 5),
+    (b"\0\x05\x01a", 3),
+    (b"\x03\x80", 1),
     (b"\x01\x85\0\0\0", 3),
     (b"\x08\x02", 2),
     (b"\x0a\0", 1),
