@@ -82,6 +82,26 @@ fn requests_change_nothing(rt: HostRuntime) {
     }
 }
 
+/// Whole sections that their first fields overrun, and the offset of the fault. No bytes after them change it.
+const OVERRUN: [(&[u8], u64); 5] = [
+    (b"\0\0", 10),
+    (b"\0\x01\x01", 11),
+    (b"\x01\x01\x80", 11),
+    (b"\x08\0", 10),
+    (b"\x0c\x01\x80", 11),
+];
+
+#[test]
+fn nothing_is_asked_for_inside_a_section(rt: HostRuntime) {
+    let mut parser = after_header(&rt, 0);
+    for (bytes, offset) in &OVERRUN {
+        let wanted = Answer::Refuses(Error::new(Fault::UnexpectedEof, *offset));
+        same(&rt, first_of(&mut parser, bytes, false), wanted);
+        same(&rt, first_of(&mut parser, bytes, true), wanted);
+        same(&rt, parser.offset(), 8);
+    }
+}
+
 /// Sections that are refused after a header, their faults and the offsets of these.
 const REFUSED: [(&[u8], Fault, u64); 6] = [
     (b"\0\x01\x01", Fault::UnexpectedEof, 11),
