@@ -3,6 +3,7 @@ mod heads;
 mod imports;
 mod instructions;
 mod items;
+mod leads;
 mod segments;
 
 use crate::tests::{is_printed, same};

@@ -28,7 +28,17 @@ const FIRST: &[u8] =
 // A section whose field is none of those that there are.
 const STRANGE: &[u8] = b"\0asm\x01\0\0\0\0\x0f\x09producers\x01\x02no\0";
 
-const NAMED: [Named<'static>; 6] = [
+const NAMED: [Named<'static>; 8] = [
+    Named {
+        name: "more",
+        bytes: MORE,
+        is_regular: true,
+    },
+    Named {
+        name: "later",
+        bytes: LATER,
+        is_regular: true,
+    },
     Named {
         name: "produced",
         bytes: PRODUCED,
@@ -60,6 +70,17 @@ const NAMED: [Named<'static>; 6] = [
         is_regular: true,
     },
 ];
+
+// `MORE` with another tool in a field that has one, whose name has more bytes than characters.
+const WIDER: &[u8] =
+    b"\0asm\x01\0\0\0\0\x36\x09producers\x02\x08language\x02\x04Rust\x041.85\x01C\0\x03sdk\x02\x01x\x011\x08\xc3\x9cnicode\x011\x01\x01\0";
+
+// A version begins after the first colon, and a name after the first equals sign.
+const COLONS: &[u8] =
+    b"\0asm\x01\0\0\0\0\x02\x01a\x01\x01\0\0\x03\x01bB\0\x23\x09producers\x01\x0cprocessed-by\x02\x01a\x03b:c\x01d\x01=";
+
+// A header with the version 2.
+const LATER: &[u8] = b"\0asm\x02\0\0\0";
 
 /// Arguments, and what a run returns, writes and says.
 type Row = (&'static [&'static str], u8, &'static [u8], &'static [u8]);
@@ -128,7 +149,7 @@ fn reads_standard_input_once(rt: HostRuntime) -> Result<(), Fail> {
     answers(&rt, alloc, &["add", "c=-", "file"], &files, (0, ADDED, b""))
 }
 
-const PRODUCERS: [Row; 11] = [
+const PRODUCERS: [Row; 14] = [
     (
         &["producers", "--set", "language="],
         2,
@@ -173,6 +194,30 @@ const PRODUCERS: [Row; 11] = [
         b"pulleynavy producers: pipe: no section 'producers'\n",
     ),
     (&["producers", "--set", "sdk=x", "bad"], 1, b"", FAULT),
+    (
+        &["producers", "--set", "sdk=x", "later"],
+        1,
+        b"",
+        b"pulleynavy: later: 0x4: unknown binary version: 2\n",
+    ),
+    (
+        &["producers", "--set", "sdk=Ünicode:1", "more"],
+        0,
+        WIDER,
+        b"",
+    ),
+    (
+        &[
+            "producers",
+            "--set",
+            "processed-by=a:b:c",
+            "--set",
+            "processed-by=d:=",
+        ],
+        0,
+        COLONS,
+        b"",
+    ),
     (
         &["producers", "--set", "sdk=x", "strange"],
         1,

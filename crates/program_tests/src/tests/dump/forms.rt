@@ -1,4 +1,5 @@
 // Dumps in other forms: objects of JSON, lines with bytes, and lines with hexadecimal offsets.
+use super::named::{Form, dumped};
 use crate::tests::commands::{MODULE, runs};
 use std::alloc::Global;
 use std::process::Abort;
@@ -175,5 +176,25 @@ fn writes_the_last_bytes_of_a_part(rt: HostRuntime) -> Result<(), Fail> {
     let output = two_parts(rt.alloc())?;
     let wanted = b"10 | 01\n  11\n11 | 02 03\n13 | 04\n";
     assert_eq!(rt; output.written(), wanted.as_slice());
+    Ok(())
+}
+
+/// The last rows and lines of a custom section of 70,002 bytes and of an empty section of types.
+const LAST_ROWS: &[u8] = b"70008 | 61 61 61 61 61 61
+custom 12 70014 14
+  section name=\"a\" unknown
+70014 | 01 01 00
+section 1 70016 70017 0 type
+end 70017
+";
+
+#[test]
+fn writes_bytes_after_a_large_part(rt: HostRuntime) -> Result<(), Fail> {
+    let alloc = rt.alloc();
+    let data = vec![in alloc; b'a'; 70_000]?;
+    let before = b"\0asm\x01\0\0\0\0\xf2\xa2\x04\x01a".as_slice();
+    let stream = [before, data.as_slice(), b"\x01\x01\0"].concat(alloc)?;
+    let text = dumped(alloc, stream.as_slice(), Form::Bytes)?;
+    assert!(rt; text.as_slice().ends_with(LAST_ROWS));
     Ok(())
 }

@@ -4,11 +4,11 @@ use std::alloc::{Allocator, Global};
 use std::process::Abort;
 use std::test::Fail;
 use wasm_feed::{
-    BoundedSink, Edit, Ended, Keep, NewSection, SliceSource, all_fit, edit, edit_stream, edit_to,
-    edited_len, encode,
+    BoundedSink, Edit, Ended, Keep, NewSection, all_fit, edit, edit_stream, edit_to, edited_len,
+    encode,
 };
 use wasm_parser::{Error, Fault, Result};
-use wasm_testing::Sparing;
+use wasm_testing::{Measuring, Sparing};
 
 /// The custom sections "a" and "b", and a type section between them.
 const STREAM: &[u8] = b"\0asm\x01\0\0\0\0\x02\x01a\x01\x01\0\0\x03\x01bB";
@@ -72,11 +72,12 @@ fn makes(rt: &impl Abort, alloc: Global, edits: &[Edit<'_>], wanted: &[u8]) {
         let rest = out.get(wanted.len()..).expect(rt, "too long");
         same_at(rt, are_ones(rest), true, &edits.len());
         for piece in [1, 2, 7, 100] {
-            let mut input = SliceSource::new(STREAM);
+            let mut input = Measuring::new(STREAM);
             let mut output = BoundedSink::new(alloc, 100).expect(rt, "out of memory");
             let how = edit_stream(alloc, edits, &mut input, &mut output, piece);
             same_at(rt, how, Ok(Ended::End), &piece);
             same_at(rt, output.written(), wanted, &piece);
+            same_at(rt, input.measured(), (piece, piece), &piece);
         }
     }
 }
