@@ -4,7 +4,7 @@
     tools/compare builds 7 1000000    a million, from seed 7
 
 Both programs list, dump and check the same files, many at once, and strip each twentieth: output, messages and statuses are compared. The program of
-Rattle is that of `prebuilt/`, so its sources must be these. Status 3: there is no cargo, or `prebuilt/` is of other sources.
+Rattle is the one that was built here, or that of `prebuilt/`. Status 3: there is no cargo, or no program of these sources.
 """
 import os
 import random
@@ -14,6 +14,7 @@ import tempfile
 
 import cargo
 import common
+import try_cargo
 from modules import mutants, stream_of
 from streams import some_stream
 
@@ -67,12 +68,12 @@ def main():
     given = common.arguments(__doc__, [("seed", 1), ("count", 20_000)])
     if not cargo.found():
         return common.NO_PROGRAM
-    if not common.is_prebuilt():
-        common.skip("prebuilt/ is not of these sources, so both builds are not compared")
-        return 0
+    other = try_cargo.of_rattle()
+    if not other:
+        common.stop(common.NO_PROGRAM, "there is no program of Rattle of these sources: tools/run --build pulleynavy")
     rng, differ, compared = random.Random(given.seed), [], 0
     with tempfile.TemporaryDirectory() as folder:
-        programs, place = (built(folder), os.path.join(common.PREBUILT, "pulleynavy")), os.path.join(folder, "streams")
+        programs, place = (built(folder), other), os.path.join(folder, "streams")
         while compared < given.count and not differ:
             streams = some(rng, min(BATCH, given.count - compared))
             differ = [alone(programs, place, streams, words) for words, _, _ in differing(programs, place, streams)]

@@ -2,7 +2,7 @@
 
     tools/try cargo
 
-It also compares what that program prints with what the prebuilt one does, for each stream of tools/golden.jsonl. The status is 1 if a test
+It also compares what that program prints with what that of Rattle's compiler does, for each stream of tools/golden.jsonl. The status is 1 if a test
 fails, if fewer ran than there are, or if an output differs. Status 3: there is no cargo.
 """
 import os
@@ -13,6 +13,7 @@ import tempfile
 
 import cargo
 import common
+import programs
 import trial
 
 RESULT = re.compile(r"^test result: ok\. (\d+) passed; 0 failed", re.M)
@@ -54,18 +55,25 @@ def differing(one, other, folder):
             said = [(run.returncode, run.stdout, run.stderr) for run in runs]
             if said[0] != said[1]:
                 return "pulleynavy %s of %s: %r, and not %r" % (" ".join(words), stream.hex(), said[0], said[1])
-    print("cargo install: %d runs print what the prebuilt program does" % (len(RUNS) * len(common.golden())))
+    print("cargo install: %d runs print what the program of Rattle does" % (len(RUNS) * len(common.golden())))
     return None
+
+
+def of_rattle():
+    """The program that Rattle's compiler built of these sources: in the gate that of `rt ci`, otherwise the prebuilt one; None if both are of others."""
+    if os.path.exists(programs.path_of("pulleynavy")) and not programs.is_older("pulleynavy"):
+        return programs.path_of("pulleynavy")
+    return os.path.join(common.PREBUILT, "pulleynavy") if common.is_prebuilt() else None
 
 
 def installed(clone, folder, settings):
     """Installs the program and compares it. Returns what is wrong, or None."""
     subprocess.run(["cargo", "install", "--quiet", "--path", ".", "--root", folder], cwd=clone, env=settings, check=True)
-    program, prebuilt = os.path.join(folder, "bin", "pulleynavy"), os.path.join(common.PREBUILT, "pulleynavy")
-    if not common.is_prebuilt():
-        common.skip("not compared with the program of Rattle: prebuilt/ is not of these sources")
+    other = of_rattle()
+    if not other:
+        print("cargo install: there is no program of Rattle of these sources to compare with")
         return None
-    return differing(program, prebuilt, folder)
+    return differing(os.path.join(folder, "bin", "pulleynavy"), other, folder)
 
 
 def judged(clone, settings):
