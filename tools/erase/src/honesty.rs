@@ -41,8 +41,10 @@ pub fn check(text: &Text) -> Result<Counts, Fault> {
 fn shapes(text: &Text, rule: &Rule) -> Result<(), Fault> {
     let all = [("remove", removed_runs(text, rule.name), rule.removes), ("write", written_runs(text, rule.name), rule.writes)];
     for (verb, runs, shapes) in all {
-        let shapes: Vec<Pattern> = if runs.is_empty() { vec![] } else { shapes.iter().map(|shape| Pattern::new(shape)).collect() };
+        let shapes: Vec<(Vec<String>, Pattern)> = if runs.is_empty() { vec![] } else { shapes.iter().map(|shape| parted(shape)).collect() };
         for run in runs {
+            let follows = |context: &[String]| is_after(text, run[0], context);
+            let shapes: Vec<&Pattern> = shapes.iter().filter(|(context, _)| follows(context)).map(|(_, shape)| shape).collect();
             let line = run[0].line;
             let named = Text::of(run.into_iter().map(named).collect());
             if !is_made_of(&named, 0, &shapes) {
@@ -53,6 +55,20 @@ fn shapes(text: &Text, rule: &Rule) -> Result<(), Fault> {
         }
     }
     Ok(())
+}
+
+// What a run has to follow, and what it is.
+fn parted(shape: &str) -> (Vec<String>, Pattern) {
+    let (context, shape) = shape.split_once('~').unwrap_or(("", shape));
+    let words = tokens("a shape", context).unwrap_or_default();
+    (words.into_iter().map(|token| token.text).collect(), Pattern::new(shape))
+}
+
+// Whether a token of the source is right after these.
+fn is_after(text: &Text, token: &Token, context: &[String]) -> bool {
+    let Origin::Source(index) = token.origin else { return context.is_empty() };
+    let before = index.checked_sub(context.len()).map(|start| &text.source[start..index]);
+    before.is_some_and(|before| before.iter().map(|token| &token.text).eq(context))
 }
 
 // A token as the shapes name it: what is no Rust, comments and lifetimes by their kind.
@@ -69,7 +85,7 @@ fn named(token: &Token) -> Token {
 }
 
 // Whether the tokens from this place on are what these patterns match, one after the other.
-fn is_made_of(text: &Text, at: usize, shapes: &[Pattern]) -> bool {
+fn is_made_of(text: &Text, at: usize, shapes: &[&Pattern]) -> bool {
     at == text.live.len() || shapes.iter().filter_map(|shape| shape.matches(text, at)).any(|found| found.end > at && is_made_of(text, found.end, shapes))
 }
 

@@ -59,6 +59,11 @@ fn a_dropped_statement() {
 }
 
 #[test]
+fn an_error_that_is_not_returned() {
+    refused(|text| remove(text, "? ; count", 1));
+}
+
+#[test]
 fn exchanged_arms() {
     refused(|text| {
         let (first, second) = (place(text, "0 = >"), place(text, "1 = >"));

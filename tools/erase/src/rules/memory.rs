@@ -7,7 +7,18 @@ use crate::text::Text;
 pub(super) const RULES: &[Rule] = &[
     Rule {
         name: "clones",
-        removes: &["?", ".unwrap()", ".expect(rt, $why)", ".expect(&rt, $why)", ".ok()?", "std::result::Result<", "Result<", ", AllocError>", "Ok(", ")"],
+        removes: &[
+            ".clone() ~ ?",
+            ".clone() ~ .unwrap()",
+            ".clone() ~ .expect(rt, $why)",
+            ".clone() ~ .expect(&rt, $why)",
+            ".clone() ~ .ok()?",
+            "fn clone(&self) -> ~ std::result::Result<",
+            "fn clone(&self) -> ~ Result<",
+            "Self ~ , AllocError>",
+            "{ ~ Ok(",
+            ")",
+        ],
         writes: &[],
         says: "A clone can't fail in Rust: `clone` returns the value, and calls lose `?`, `unwrap`, `expect` and `ok`.",
         source: "fn clone(&self) -> std::result::Result<Self, AllocError> { Ok(S { a: self.a.clone()?, b: self.b.clone().expect(rt, \"x\") }) }\nlet c = d.clone().unwrap();",

@@ -17,7 +17,7 @@ pub struct Rule {
     pub name: &'static str,
     /// What it does, in a sentence.
     pub says: &'static str,
-    /// What runs of tokens that it removes or writes are made of, as patterns. `honesty::check` holds the rule to them, whatever its code does.
+    /// What runs of tokens that it removes or writes are made of, as patterns; before `~` is what the run has to follow. `honesty::check` holds the rule to them, whatever its code does.
     pub removes: &'static [&'static str],
     pub writes: &'static [&'static str],
     /// A source and its result by this rule alone. The source is of the crate `wasm_base`.
