@@ -5,7 +5,8 @@
     tools/compare checks --program P    the program P, instead of the built one; --archive and --wasm name the libraries of the other two
 
 Each file is a golden stream or a random module with some bytes changed. The programs must agree which files are malformed, and on the first fault
-of each. The exit status must be 1 if a file is malformed, of many files and of one.
+of each. The exit status must be 1 if a file is malformed, of many files and of one. A warning, which only the program of the command line gives, is
+no fault.
 """
 import os
 import random
@@ -43,7 +44,8 @@ def said(command, names, folder):
     for line in (output + errors).decode(errors="backslashreplace").splitlines():
         native, bound = NATIVE.fullmatch(line), BOUND.fullmatch(line)
         common.require(native or bound, "%s says %r" % (" ".join(words), line))
-        first.setdefault((native or bound)[1], (int(native[2], 16), native[3]) if native else (int(bound[3], 16), bound[2]))
+        if not native or not native[3].startswith("warning: "):
+            first.setdefault((native or bound)[1], (int(native[2], 16), native[3]) if native else (int(bound[3], 16), bound[2]))
     return first, status
 
 

@@ -35,7 +35,7 @@ PLANTS = {
     "tests": ("tools/lib/tests.txt", r"\d+", "1"),
     "kept": ("tools/golden.jsonl", r"\A.*\n", ""),
     "trusted": ("docs/SECURITY.md", r"rests on 12", "rests on 11"),
-    "helps": ("docs/completions/pulleynavy.bash", r"--only", "--lone"),
+    "helps": ("tools/README.md", r"`tools/profile`", "`tools/profiles`"),
     "imports": ("crates/wasm_lines/proofs/Lib.antt", None, "use Rattle.wasm_text.proofs.Cut.{cut}"),
     "words": ("docs/DUMP.md", None, "It gives again the names."),
     "names": ("docs/DUMP.md", None, "Call `BinaryReader::read_nothing`."),

@@ -1,5 +1,5 @@
 // The command `add`: appends custom sections, or replaces them.
-ghost use Rattle.std.specs.Prelude.{false, IfOk, map};
+ghost use Rattle.std.specs.Prelude.{◌≡◌, false, IfOk, map};
 ghost use Rattle.wasm_commands.specs.ArgumentLists.{has_option};
 ghost use Rattle.wasm_commands.specs.Parsing.{reads_of, texts};
 ghost use Rattle.wasm_commands.specs.declared.options.Flag.TheVariants.{Replace};

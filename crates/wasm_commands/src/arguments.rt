@@ -74,32 +74,17 @@ fn split_at_equals(word: &str) -> Parts<'_>
     }
 }
 
-// Splits an option into its name and its value. Of the short options only `-o` may have its value attached.
+// Splits an option into its name and its value. A short option has no attached value.
 fn split_attached(word: &str) -> Parts<'_>
     ensures name { result.name.now ≡ name_of word.now }
     ensures value { text_if_any result.value ≡ attached_of word.now }
 {
     match word.as_bytes() {
         [b'-', b'-', ..] => split_at_equals(word),
-        [b'-', b'o', third, ..] => split_after_letter(word, *third),
         _ => Parts {
             name: word,
             value: None,
         },
-    }
-}
-
-// Splits `-oVALUE`, unless the value would begin with `=`: who writes that means no file of such a name.
-fn split_after_letter(word: &str, third: u8) -> Parts<'_> {
-    if third == b'=' {
-        return Parts {
-            name: word,
-            value: None,
-        };
-    }
-    Parts {
-        name: "-o",
-        value: word.get(2..),
     }
 }
 

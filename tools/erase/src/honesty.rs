@@ -43,21 +43,20 @@ fn shapes(text: &Text, rule: &Rule) -> Result<(), Fault> {
     for (verb, runs, shapes) in all {
         let shapes: Vec<(Vec<String>, Pattern)> = if runs.is_empty() { vec![] } else { shapes.iter().map(|shape| parted(shape)).collect() };
         for run in runs {
-            let follows = |context: &[String]| is_after(text, run[0], context);
-            let shapes: Vec<&Pattern> = shapes.iter().filter(|(context, _)| follows(context)).map(|(_, shape)| shape).collect();
-            let line = run[0].line;
-            let named = Text::of(run.into_iter().map(named).collect());
-            if !is_made_of(&named, 0, &shapes) {
+            let named = Text::of(run.iter().map(|token| named(token)).collect());
+            // Some shapes have to follow others in the source, each at its own place.
+            let may_begin = |place: usize, context: &[String]| is_after(text, run[place], context);
+            if !is_made_of(&named, 0, &shapes, &may_begin) {
                 let words: Vec<&str> = named.live.iter().map(|token| token.text.as_str()).collect();
                 let why = format!("the rule `{}` may not {verb} `{}`", rule.name, words.join(" "));
-                return Err(Fault { path: text.path.clone(), line, why });
+                return Err(Fault { path: text.path.clone(), line: run[0].line, why });
             }
         }
     }
     Ok(())
 }
 
-// What a run has to follow, and what it is.
+// What a shape has to follow, and what it is.
 fn parted(shape: &str) -> (Vec<String>, Pattern) {
     let (context, shape) = shape.split_once('~').unwrap_or(("", shape));
     let words = tokens("a shape", context).unwrap_or_default();
@@ -84,9 +83,10 @@ fn named(token: &Token) -> Token {
     Token { text: name.into(), ..token.clone() }
 }
 
-// Whether the tokens from this place on are what these patterns match, one after the other.
-fn is_made_of(text: &Text, at: usize, shapes: &[&Pattern]) -> bool {
-    at == text.live.len() || shapes.iter().filter_map(|shape| shape.matches(text, at)).any(|found| found.end > at && is_made_of(text, found.end, shapes))
+// Whether the tokens from this place on are what these shapes match, one after the other, each where it may begin.
+fn is_made_of(text: &Text, at: usize, shapes: &[(Vec<String>, Pattern)], may_begin: &dyn Fn(usize, &[String]) -> bool) -> bool {
+    let ends = || shapes.iter().filter(|(context, _)| may_begin(at, context)).filter_map(|(_, shape)| Some(shape.matches(text, at)?.end));
+    at == text.live.len() || ends().any(|end| end > at && is_made_of(text, end, shapes, may_begin))
 }
 
 // Counts tokens of the source that are not in the result. A rule must have removed each.

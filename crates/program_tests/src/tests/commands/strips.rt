@@ -121,7 +121,6 @@ fn replaces_a_file_once_it_is_complete(rt: HostRuntime) -> Result<(), Fail> {
         Some(8),
         0,
     )?;
-    writes(&rt, alloc, &["strip", "-oout", "a"], (0, b""), Some(8), 0)?;
     writes(
         &rt,
         alloc,

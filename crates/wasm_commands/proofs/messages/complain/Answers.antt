@@ -34,7 +34,7 @@ returns-in-NoCommand-clause-says g c = rw c.in-NoCommand.is (rw c.as_slice-in-No
 pub returns-in-NamesOf-clause-says : goal.returns-in-NamesOf-clause-says
 returns-in-NamesOf-clause-says g c =
     rw c.in-NamesOf.is
-    (rw (c.as_slice-in-NamesOf.ensures, c.shown_name.ensures, c.as_bytes-in-NamesOf.ensures.value) at c.say-in-NamesOf.ensures)
+    (rw (c.as_slice-in-NamesOf.ensures, c.as_bytes-in-NamesOf.ensures.value, c.shown_name.ensures) at c.say-in-NamesOf.ensures)
 
 pub returns-in-InputTwice-clause-says : goal.returns-in-InputTwice-clause-says
 returns-in-InputTwice-clause-says g c = rw c.in-InputTwice.is c.complain_of-in-InputTwice.ensures.says

@@ -26,5 +26,5 @@ refused section e old new other (inr reads) f is h =
 
 pub returns-in-Err-clause-found : goal.returns-in-Err-clause-found
 returns-in-Err-clause-found g c is h =
-    refused c.args.section.now c.in-Err.error _ _ (rw (c.eq.ensures, c.name-2.ensures) at c.if-eq.false) c.in-Err.ensures.gives c.show_refused.ensures.found is
-    (c.quoted.ensures.found is (c.line.ensures.found is h))
+    refused c.args.section.now c.in-Err.error _ _ (rw (c.eq.ensures, c.name-2.ensures) at c.if-eq.false) c.in-Err.ensures.gives
+    c.show_refused.ensures.found is (c.quoted.ensures.found is (c.line.ensures.found is h))
