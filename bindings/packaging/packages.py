@@ -119,23 +119,16 @@ def built(target, *names):
 # ---- Rust
 
 
-# What declares the proved sources in a checkout, and what does in the package, which has them as files.
-IN_CHECKOUT, IN_PACKAGE = 'mod proved {\n    include!(concat!(env!("OUT_DIR"), "/proved/mod.rs"));\n}\n', "mod proved;\n"
-
-
 def crate(folder, place):
-    """The crate, with the proved sources as Rust. It has no build script, and nothing that is built."""
+    """The crate, with the archives of both machines in lib/, and those for Windows and macOS if they are given."""
+    copy_binding("rust", place, "tests")
+    for machine in MACHINES:
+        copy_to(archive(machine), place, "lib", machine, "libwasm_c.a")
+    for target in desktops.TARGETS:
+        for path in built(target, "libpulleynavy.a", "pulleynavy.lib"):
+            copy_to(path, place, "lib", target, os.path.basename(path))
     if cargo.version() is None or cargo.version() < cargo.oldest():
         raise Missing("cargo %d.%d or later" % cargo.oldest())
-    copy_binding("rust", place, "tests", "build.rs")
-    common.must(["cargo", "run", "--offline", "--quiet", "--package", "erase", "--target-dir", os.path.join(place, "target"), "--", "--crate", ".", os.path.join(place, "src", "proved")], common.TOP)
-    for name, changes in (("src/lib.rs", {IN_CHECKOUT: IN_PACKAGE}), ("Cargo.toml", {'build = "build.rs"\n': "", '[build-dependencies]\nerase = { path = "../../tools/erase" }\n\n': ""})):
-        text = common.read(place, name)
-        for old, new in changes.items():
-            assert old in text, "%s has no %r" % (name, old)
-            text = text.replace(old, new)
-        common.write(os.path.join(place, name), text)
-    common.must([needed("rustfmt"), "--edition", "2024", "src/lib.rs"], place)
     cargo.offline(os.path.dirname(place))
     common.must(["cargo", "package", "--offline", "--allow-dirty", "--no-verify", "--target-dir", os.path.join(place, "target")], place)
     for path in glob.glob(os.path.join(place, "target", "package", "*.crate")):

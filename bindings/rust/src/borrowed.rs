@@ -1,7 +1,6 @@
 //! Items whose lists borrow from the input, for builds without the feature `alloc`.
+use crate::codes::composite_kind;
 use crate::error::Result;
-use crate::proved::base::FromReader as _;
-use crate::proved::items;
 use crate::types::type_index;
 use crate::{ArrayType, BinaryReader, ContType, CoreDumpValue, FieldType, FromReader, List, PackedIndex, SectionLimited, ValType, library};
 
@@ -239,15 +238,14 @@ impl<'a> SubType<'a> {
 
 impl<'a> FromReader<'a> for SubType<'a> {
     fn from_reader(reader: &mut BinaryReader<'a>) -> Result<Self> {
-        let items::SubTypeHead { is_final, supertype, kind, count } = reader.by(items::SubTypeHead::from_reader)?;
-        let inner = match kind {
-            items::CompositeKind::Func => CompositeInnerType::Func(FuncType::read(reader, count)?),
-            items::CompositeKind::Array => CompositeInnerType::Array(reader.read()?),
-            items::CompositeKind::Struct => {
-                CompositeInnerType::Struct(StructType { fields: read_items(reader, count, FieldType::from_reader, FieldType::from_reader)? })
-            }
+        let (_, head) = reader.item(library::subtype)?;
+        let inner = match head.kind {
+            composite_kind::FUNC => CompositeInnerType::Func(FuncType::read(reader, head.count)?),
+            composite_kind::ARRAY => CompositeInnerType::Array(reader.read()?),
+            _ => CompositeInnerType::Struct(StructType { fields: read_items(reader, head.count, FieldType::from_reader, FieldType::from_reader)? }),
         };
-        Ok(SubType { is_final, supertype_idx: supertype.map(type_index), composite_type: CompositeType { inner, shared: false } })
+        let supertype_idx = (head.has_supertype != 0).then(|| type_index(head.supertype));
+        Ok(SubType { is_final: head.is_final != 0, supertype_idx, composite_type: CompositeType { inner, shared: false } })
     }
 }
 
@@ -291,8 +289,8 @@ impl<'a> RecGroup<'a> {
 
 impl<'a> FromReader<'a> for RecGroup<'a> {
     fn from_reader(reader: &mut BinaryReader<'a>) -> Result<Self> {
-        let items::RecGroupHead { explicit, count } = reader.by(items::RecGroupHead::from_reader)?;
-        Ok(RecGroup { explicit, types: read_items(reader, count, SubType::from_reader, SubType::from_reader)? })
+        let (_, head) = reader.item(library::type_group)?;
+        Ok(RecGroup { explicit: head.is_explicit != 0, types: read_items(reader, head.count, SubType::from_reader, SubType::from_reader)? })
     }
 }
 

@@ -1,6 +1,5 @@
 //! Custom sections and subsections.
-use crate::library::{self, Item};
-use crate::proved::frames::Frame;
+use crate::library::{self, Item, Span};
 use crate::section::Window;
 use crate::{BinaryReader, Error, Fault, Result};
 use core::fmt;
@@ -24,7 +23,7 @@ use core::ops::Range;
 /// ```
 #[derive(Clone, Copy)]
 pub struct CustomSectionReader<'a> {
-    start: u64,
+    whole: Window<'a>,
     name: &'a str,
     data: Window<'a>,
 }
@@ -43,15 +42,15 @@ impl<'a> CustomSectionReader<'a> {
     ///
     /// Those of [`BinaryReader::read_string`] for the name.
     pub fn new(mut reader: BinaryReader<'a>) -> Result<Self> {
-        let start = reader.original_position();
-        Ok(CustomSectionReader { start, name: reader.read_string()?, data: reader.rest })
+        let whole = reader.rest;
+        Ok(CustomSectionReader { whole, name: reader.read_string()?, data: reader.rest })
     }
 
-    /// The section of a frame, whose name was read.
-    #[inline(always)]
-    pub(crate) fn of(frame: Frame<'a>) -> Self {
-        let (start, name) = (frame.range().start, frame.name());
-        CustomSectionReader { start, name, data: Window::of(&frame.into_reader()) }
+    /// The section in a window, by the offset of its data and the size of the name before it.
+    pub(crate) fn of(whole: Window<'a>, data_offset: u64, name_size: usize) -> Self {
+        let data = whole.from(data_offset);
+        let name = whole.text(Span { at: whole.bytes.len() - data.bytes.len() - name_size, size: name_size });
+        CustomSectionReader { whole, name, data }
     }
 
     /// Returns the name of the section.
@@ -87,7 +86,7 @@ impl<'a> CustomSectionReader<'a> {
     /// Returns the offsets of the content, including the name, in bytes from the start of the stream.
     #[must_use]
     pub fn range(&self) -> Range<u64> {
-        self.start..self.data.range().end
+        self.whole.range()
     }
 }
 

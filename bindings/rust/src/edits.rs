@@ -15,7 +15,6 @@ pub struct NewSection<'a> {
 
 /// An edit of the custom sections of a stream.
 #[derive(Clone, Copy, Debug, PartialEq, Eq, Hash)]
-#[non_exhaustive]
 pub enum Edit<'a> {
     /// Appends a section.
     Append(NewSection<'a>),

@@ -1,5 +1,4 @@
 //! Errors.
-use crate::proved::{base, plain};
 use crate::{Fault, Lead, library};
 use core::fmt;
 use core::num::NonZeroUsize;
@@ -49,16 +48,6 @@ impl Error {
     #[inline]
     pub(crate) fn check(fault: library::Fault) -> Result<()> {
         if fault.kind == 0 { Ok(()) } else { Err(Error::reported(fault)) }
-    }
-
-    /// The error of the proved sources.
-    #[cold]
-    #[inline(never)]
-    pub(crate) fn of(error: base::Error) -> Self {
-        // As if a byte remained, since an end without one has no fault.
-        let reported = Error::reported(plain::end_fault(error.fault(), &[0], error.offset()));
-        let reported = error.number().map_or(reported, |number| reported.with_number(number));
-        error.needed_hint().map_or(reported, |hint| reported.with_hint(hint))
     }
 
     /// The error of a fault that the library reports.

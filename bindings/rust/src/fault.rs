@@ -47,7 +47,6 @@ numbered! {
 
 numbered! {
     /// What a `LeadingByte` fault expected at its offset.
-    #[non_exhaustive]
     Lead {
         /// A branch hint.
         lead::BRANCH_HINT BranchHint,
@@ -107,7 +106,6 @@ macro_rules! faults {
         /// assert_eq!(error.offset(), 4);
         /// ```
         #[derive(Clone, Copy, Debug, PartialEq, Eq, Hash)]
-        #[non_exhaustive]
         pub enum Fault {
             $($(#[$doc])* $variant,)*
             /// A LEB128 number is too long: its last possible byte has the top bit set. The offset is that of this byte.

@@ -2,8 +2,6 @@
 use crate::codes::{external_kind, import_kind};
 use crate::kinds::{exception_tag, global_type, memory_type, table_type};
 use crate::library;
-use crate::proved::base::FromReader as _;
-use crate::proved::items;
 use crate::section::{SectionLimitedIntoIter, SectionLimitedIntoIterWithOffsets};
 use crate::{BinaryReader, ExternalKind, FromReader, GlobalType, MemoryType, Result, SectionLimited, TableType, TagType};
 
@@ -123,21 +121,6 @@ fn type_ref(ty: &library::ImportType) -> TypeRef {
     }
 }
 
-impl TypeRef {
-    /// The type that the proved sources have.
-    #[inline(always)]
-    fn of(ty: items::TypeRef) -> Self {
-        match ty {
-            items::TypeRef::Func(index) => TypeRef::Func(index),
-            items::TypeRef::Table(ty) => TypeRef::Table(TableType::of(ty)),
-            items::TypeRef::Memory(ty) => TypeRef::Memory(MemoryType::of(ty)),
-            items::TypeRef::Global(ty) => TypeRef::Global(GlobalType::of(ty)),
-            items::TypeRef::Tag(ty) => TypeRef::Tag(exception_tag(ty.func_type_idx)),
-            items::TypeRef::FuncExact(index) => TypeRef::FuncExact(index),
-        }
-    }
-}
-
 impl<'a> FromReader<'a> for TypeRef {
     fn from_reader(reader: &mut BinaryReader<'a>) -> Result<Self> {
         Ok(match reader.read()? {
@@ -160,27 +143,15 @@ impl<'a> FromReader<'a> for Import<'a> {
 
 impl<'a> FromReader<'a> for Imports<'a> {
     fn from_reader(reader: &mut BinaryReader<'a>) -> Result<Self> {
-        let before = reader.clone();
-        if let items::Imports::Single(offset, import) = reader.by(items::Imports::from_reader)? {
-            let items::Import { module, name, ty } = import;
-            return Ok(Imports::Single(offset, Import { module, name, ty: TypeRef::of(ty) }));
-        }
-        *reader = before;
-        read_bundle(reader)
+        let (window, plain) = reader.item(library::import)?;
+        let (module, ty) = (window.text(plain.module_name), type_ref(&plain.ty));
+        let group = match plain.kind {
+            import_kind::SINGLE => Imports::Single(window.offset, Import { module, name: window.text(plain.name), ty }),
+            import_kind::BUNDLE => Imports::Compact1 { module, items: SectionLimited::list(window, plain.items, plain.count) },
+            _ => Imports::Compact2 { module, ty, names: SectionLimited::list(window, plain.items, plain.count) },
+        };
+        Ok(group)
     }
-}
-
-/// Reads a bundle of imports.
-#[cold]
-fn read_bundle<'a>(reader: &mut BinaryReader<'a>) -> Result<Imports<'a>> {
-    let (window, plain) = reader.item(library::import)?;
-    let (module, ty) = (window.text(plain.module_name), type_ref(&plain.ty));
-    let group = match plain.kind {
-        import_kind::SINGLE => Imports::Single(window.offset, Import { module, name: window.text(plain.name), ty }),
-        import_kind::BUNDLE => Imports::Compact1 { module, items: SectionLimited::list(window, plain.items, plain.count) },
-        _ => Imports::Compact2 { module, ty, names: SectionLimited::list(window, plain.items, plain.count) },
-    };
-    Ok(group)
 }
 
 impl<'a> FromReader<'a> for ImportItemCompact<'a> {
@@ -277,8 +248,6 @@ impl<'a> Iterator for IntoImportsWithOffsets<'a> {
                 return Some(import);
             }
             match self.groups.next()? {
-                // Almost every group is one import.
-                Ok(Imports::Single(offset, import)) => return Some(Ok((offset, import))),
                 Ok(group) => self.group = group.into_iter(),
                 Err(error) => return Some(Err(error)),
             }

@@ -1,9 +1,7 @@
 //! Tables, globals, exports and segments.
-use crate::codes::{element_kind, external_kind};
-use crate::kinds::table_type;
+use crate::codes::{data_kind, element_kind, external_kind};
+use crate::kinds::{global_type, table_type};
 use crate::library::Span;
-use crate::proved::base::FromReader as _;
-use crate::proved::items;
 use crate::section::Window;
 use crate::types::ref_type;
 use crate::{BinaryReader, FromReader, GlobalType, Lead, OperatorsReader, RefType, Result, SectionLimited, TableType, library};
@@ -28,12 +26,6 @@ pub struct ConstExpr<'a> {
 }
 
 impl<'a> ConstExpr<'a> {
-    /// The expression that the proved sources have.
-    #[inline(always)]
-    pub(crate) fn of(expression: &items::ConstExpr<'a>) -> Self {
-        ConstExpr { window: Window::of(&expression.get_binary_reader()) }
-    }
-
     /// Takes the remaining bytes of a reader as an expression, without reading or checking them.
     #[must_use]
     pub fn new(reader: BinaryReader<'a>) -> Self {
@@ -146,8 +138,8 @@ pub struct Global<'a> {
 
 impl<'a> FromReader<'a> for Global<'a> {
     fn from_reader(reader: &mut BinaryReader<'a>) -> Result<Self> {
-        let items::Global { ty, init_expr } = reader.by(items::Global::from_reader)?;
-        Ok(Global { ty: GlobalType::of(ty), init_expr: ConstExpr::of(&init_expr) })
+        let (window, plain) = reader.item(library::global)?;
+        Ok(Global { ty: global_type(plain.ty), init_expr: ConstExpr { window: window.part(plain.init) } })
     }
 }
 
@@ -223,16 +215,9 @@ pub struct Export<'a> {
 
 impl<'a> FromReader<'a> for Export<'a> {
     fn from_reader(reader: &mut BinaryReader<'a>) -> Result<Self> {
-        let items::Export { name, kind, index } = reader.by(items::Export::from_reader)?;
-        let kind = match kind {
-            items::ExternalKind::Func => ExternalKind::Func,
-            items::ExternalKind::Table => ExternalKind::Table,
-            items::ExternalKind::Memory => ExternalKind::Memory,
-            items::ExternalKind::Global => ExternalKind::Global,
-            items::ExternalKind::Tag => ExternalKind::Tag,
-            items::ExternalKind::FuncExact => ExternalKind::FuncExact,
-        };
-        Ok(Export { name, kind, index })
+        let (window, plain) = reader.item(library::export)?;
+        let kind = ExternalKind::of(plain.kind).unwrap_or(ExternalKind::FuncExact);
+        Ok(Export { name: window.text(plain.name), kind, index: plain.index })
     }
 }
 
@@ -378,11 +363,12 @@ pub enum DataKind<'a> {
 
 impl<'a> FromReader<'a> for Data<'a> {
     fn from_reader(reader: &mut BinaryReader<'a>) -> Result<Self> {
-        let items::Data { kind, bytes, range } = reader.by(items::Data::from_reader)?;
-        let kind = match kind {
-            items::DataKind::Passive => DataKind::Passive,
-            items::DataKind::Active { memory_index, offset_expr } => DataKind::Active { memory_index, offset_expr: ConstExpr::of(&offset_expr) },
+        let (window, plain) = reader.item(library::data)?;
+        let kind = match plain.kind {
+            data_kind::PASSIVE => DataKind::Passive,
+            _ => DataKind::Active { memory_index: plain.memory, offset_expr: ConstExpr { window: window.part(plain.offset_expression) } },
         };
-        Ok(Data { kind, data: bytes, range })
+        let range = window.offset..reader.original_position();
+        Ok(Data { kind, data: window.part(plain.bytes).bytes, range })
     }
 }

@@ -1,5 +1,4 @@
 //! Types of tables, memories, globals and tags.
-use crate::proved::items;
 use crate::types::{ref_type, val_type};
 use crate::{BinaryReader, FromReader, RefType, Result, ValType, library};
 
@@ -128,30 +127,6 @@ pub struct TagType {
 /// The type of a tag of exceptions, by its function type.
 pub(crate) fn exception_tag(func_type_idx: u32) -> TagType {
     TagType { kind: TagKind::Exception, func_type_idx }
-}
-
-impl TableType {
-    /// The type that the proved sources have.
-    pub(crate) fn of(ty: items::TableType) -> Self {
-        let items::TableType { element_type, table64, initial, maximum, shared } = ty;
-        TableType { element_type: RefType::of(element_type), table64, initial, maximum, shared }
-    }
-}
-
-impl MemoryType {
-    /// The type that the proved sources have.
-    pub(crate) fn of(ty: items::MemoryType) -> Self {
-        let items::MemoryType { memory64, shared, initial, maximum, page_size_log2 } = ty;
-        MemoryType { memory64, shared, initial, maximum, page_size_log2 }
-    }
-}
-
-impl GlobalType {
-    /// The type that the proved sources have.
-    #[inline(always)]
-    pub(crate) fn of(ty: items::GlobalType) -> Self {
-        GlobalType { content_type: ValType::of(ty.content_type), mutable: ty.mutable, shared: ty.shared }
-    }
 }
 
 pub(crate) fn table_type(ty: library::TableType) -> TableType {

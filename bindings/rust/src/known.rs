@@ -22,7 +22,6 @@ use core::ops::Range;
 /// # Ok::<(), pulleynavy::Error>(())
 /// ```
 #[derive(Clone, Debug)]
-#[non_exhaustive]
 pub enum KnownCustom<'a> {
     /// The section `name`.
     Name(NameSectionReader<'a>),

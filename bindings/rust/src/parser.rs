@@ -1,9 +1,9 @@
 //! The parser.
-use crate::payload::{payload, unknown};
-use crate::proved::frames::{FrameKind, NextFrame};
+use crate::codes::event_kind;
+use crate::payload::payload;
 use crate::section::Window;
 use crate::skipped::{SkippedPart, skipped_part};
-use crate::{BinaryReader, CustomSectionReader, Error, FunctionBody, Payload, Result, WasmFeatures, library};
+use crate::{BinaryReader, Error, Payload, Result, WasmFeatures, library};
 
 /// The result of [`Parser::parse`]: a payload, or a request for more input.
 ///
@@ -132,16 +132,12 @@ impl Parser {
     /// The error of malformed input, at the offset that its [`Fault`](crate::Fault) documents. With `eof`, truncated input is
     /// `UnexpectedEof`. The parser is then unchanged, so that the same call returns the same error.
     pub fn parse<'a>(&mut self, data: &'a [u8], eof: bool) -> Result<Chunk<'a>> {
-        match self.0.next_for::<Payload<'_>, true>(data, eof) {
-            // Each of the frequent kinds on its own, so that its fields go straight to the caller's memory.
-            NextFrame::Parsed { frame, consumed } => match frame.kind() {
-                FrameKind::Custom => Ok(Chunk::Parsed { consumed, payload: Payload::CustomSection(CustomSectionReader::of(frame)) }),
-                FrameKind::Body => Ok(Chunk::Parsed { consumed, payload: Payload::CodeSectionEntry(FunctionBody::of(frame)) }),
-                FrameKind::Unknown => Ok(Chunk::Parsed { consumed, payload: unknown(frame) }),
-                _ => Ok(Chunk::Parsed { consumed, payload: payload(frame) }),
-            },
-            NextFrame::NeedMoreData(hint) => Ok(Chunk::NeedMoreData(hint)),
-            NextFrame::Fault(error) => Err(Error::of(error)),
+        let before = Window { bytes: data, offset: self.0.offset, features: self.0.features };
+        let event = library::parse(&mut self.0, data, eof);
+        match event.kind {
+            event_kind::NEED_MORE => Ok(Chunk::NeedMoreData(event.hint)),
+            event_kind::FAULT => Err(Error::reported(event.fault)),
+            _ => Ok(Chunk::Parsed { consumed: event.consumed, payload: payload(before, &event) }),
         }
     }
 

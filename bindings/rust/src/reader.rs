@@ -1,6 +1,5 @@
 //! A reader of bytes.
 use crate::library::{self, Item, Span};
-use crate::proved::base;
 use crate::section::Window;
 use crate::{Error, Fault, FromReader, Ieee32, Ieee64, Lead, MAX_WASM_STRING_SIZE, Result, WasmFeatures};
 use core::ops::Range;
@@ -151,19 +150,6 @@ impl<'a> BinaryReader<'a> {
         Error::check(check(&self.rest))
     }
 
-    /// Reads with the proved reader, and moves past what it read. After an error the reader is unchanged.
-    #[inline(always)]
-    pub(crate) fn by<T>(&mut self, read: impl FnOnce(&mut base::BinaryReader<'a>) -> base::Result<T>) -> Result<T> {
-        let mut reader = self.rest.reader();
-        match read(&mut reader) {
-            Ok(item) => {
-                self.rest = Window::of(&reader);
-                Ok(item)
-            }
-            Err(error) => Err(Error::of(error)),
-        }
-    }
-
     /// Reads an item with the library and moves past it. Returns the bytes before the call, to which its spans refer, and the item.
     pub(crate) fn item<T: Item>(&mut self, read: impl FnOnce(&Window<'a>) -> T) -> Result<(Window<'a>, T)> {
         let window = self.rest;
@@ -270,6 +256,11 @@ impl<'a> BinaryReader<'a> {
         self.read_u32()
     }
 
+    /// Reads a LEB128 number with the library, which returns no hints. A truncated number needs at least one more byte.
+    fn number<T: Item>(&mut self, read: impl FnOnce(&Window<'a>) -> T) -> Result<T> {
+        self.item(read).map(|(_, number)| number).map_err(|error| error.with_hint(1))
+    }
+
     /// Reads an unsigned 32-bit number in LEB128.
     ///
     /// # Errors
@@ -287,7 +278,7 @@ impl<'a> BinaryReader<'a> {
     /// # Ok::<(), pulleynavy::Error>(())
     /// ```
     pub fn read_var_u32(&mut self) -> Result<u32> {
-        self.by(base::BinaryReader::read_var_u32)
+        Ok(self.number(library::var_u32)?.value as u32)
     }
 
     /// Reads a signed 32-bit number in LEB128.
@@ -296,7 +287,7 @@ impl<'a> BinaryReader<'a> {
     ///
     /// `UnexpectedEof` at the end of the bytes if the number is truncated; `NumberTooLong` or `NumberTooLarge` at its fifth byte.
     pub fn read_var_i32(&mut self) -> Result<i32> {
-        self.by(base::BinaryReader::read_var_i32)
+        Ok(self.number(library::var_s32)?.value as i32)
     }
 
     /// Reads an unsigned 64-bit number in LEB128.
@@ -305,7 +296,7 @@ impl<'a> BinaryReader<'a> {
     ///
     /// `UnexpectedEof` at the end of the bytes if the number is truncated; `NumberTooLong` or `NumberTooLarge` at its tenth byte.
     pub fn read_var_u64(&mut self) -> Result<u64> {
-        self.by(base::BinaryReader::read_var_u64)
+        Ok(self.number(library::var_u64)?.value)
     }
 
     /// Reads a signed 64-bit number in LEB128.
@@ -314,7 +305,7 @@ impl<'a> BinaryReader<'a> {
     ///
     /// `UnexpectedEof` at the end of the bytes if the number is truncated; `NumberTooLong` or `NumberTooLarge` at its tenth byte.
     pub fn read_var_i64(&mut self) -> Result<i64> {
-        self.by(base::BinaryReader::read_var_i64)
+        Ok(self.number(library::var_s64)?.value)
     }
 
     /// Reads a signed 33-bit number in LEB128.
@@ -323,7 +314,7 @@ impl<'a> BinaryReader<'a> {
     ///
     /// `UnexpectedEof` at the end of the bytes if the number is truncated; `NumberTooLong` or `NumberTooLarge` at its fifth byte.
     pub fn read_var_s33(&mut self) -> Result<i64> {
-        self.by(base::BinaryReader::read_var_s33)
+        Ok(self.number(library::var_s33)?.value)
     }
 
     /// Reads the bits of a 32-bit float.
@@ -366,6 +357,15 @@ impl<'a> BinaryReader<'a> {
         Ok(BinaryReader::of(self.take(size)?))
     }
 
+    /// Reads a string with the library, which returns no hints. If bytes are missing, `read_reader` fails at the same offset, with a hint.
+    fn text(&mut self, read: fn(&Window<'_>) -> library::Name) -> Result<&'a str> {
+        match self.item(read) {
+            Ok((window, plain)) => Ok(window.text(plain.name)),
+            Err(error) if error.fault() == Fault::UnexpectedEof => Err(self.clone().read_reader().err().unwrap_or(error)),
+            Err(error) => Err(error),
+        }
+    }
+
     /// Reads a string of at most 100,000 bytes.
     ///
     /// # Errors
@@ -375,7 +375,7 @@ impl<'a> BinaryReader<'a> {
     /// * `UnexpectedEof` after the size if bytes are missing.
     /// * `MalformedUtf8` at the last byte of the string.
     pub fn read_string(&mut self) -> Result<&'a str> {
-        self.by(base::BinaryReader::read_string)
+        self.text(library::name)
     }
 
     /// Reads a string of any length.
@@ -384,7 +384,7 @@ impl<'a> BinaryReader<'a> {
     ///
     /// Those of [`BinaryReader::read_string`], except `StringSize`.
     pub fn read_unlimited_string(&mut self) -> Result<&'a str> {
-        self.by(base::BinaryReader::read_unlimited_string)
+        self.text(library::text)
     }
 
     /// Skips a string of at most 100,000 bytes, which may be invalid UTF-8.

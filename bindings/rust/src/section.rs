@@ -1,8 +1,5 @@
 //! Counted items in a window.
 use crate::library::Span;
-use crate::proved::base;
-use crate::proved::bitflags::Flags;
-use crate::proved::frames::Frame;
 use crate::{BinaryReader, Error, Fault, Result};
 use core::fmt;
 use core::iter::FusedIterator;
@@ -18,18 +15,6 @@ pub(crate) struct Window<'a> {
 }
 
 impl<'a> Window<'a> {
-    /// The remaining bytes of a proved reader.
-    #[inline(always)]
-    pub(crate) fn of(reader: &base::BinaryReader<'a>) -> Self {
-        Window { bytes: reader.remaining_buffer(), offset: reader.original_position(), features: reader.features().bits() }
-    }
-
-    /// A proved reader of the bytes.
-    #[inline(always)]
-    pub(crate) fn reader(&self) -> base::BinaryReader<'a> {
-        base::BinaryReader::new_features(self.bytes, self.offset, base::WasmFeatures::from_bits_retain(self.features))
-    }
-
     /// Its offsets.
     pub(crate) fn range(&self) -> Range<u64> {
         self.offset..self.offset + self.bytes.len() as u64
@@ -169,11 +154,9 @@ impl<'a, T> SectionLimited<'a, T> {
         Ok(SectionLimited { whole, rest: reader.rest, count, item: PhantomData })
     }
 
-    /// The section of a frame, whose count was read.
-    #[inline(always)]
-    pub(crate) fn counted(frame: Frame<'a>) -> Self {
-        let (whole, count) = (frame.range(), frame.count());
-        SectionLimited { whole, rest: Window::of(&frame.into_reader()), count, item: PhantomData }
+    /// A section whose count the library has read: its items begin at this offset.
+    pub(crate) fn counted(section: Window<'a>, items: u64, count: u32) -> Self {
+        SectionLimited { whole: section.range(), rest: section.from(items), count, item: PhantomData }
     }
 
     /// A list inside an item: this many items after their count.

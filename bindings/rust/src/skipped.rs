@@ -16,7 +16,6 @@ pub struct SkippedPart<'a> {
 
 /// The first fields of a section or body that was skipped.
 #[derive(Clone, Copy, Debug, PartialEq, Eq)]
-#[non_exhaustive]
 pub enum PartHead<'a> {
     /// A custom section.
     Custom {

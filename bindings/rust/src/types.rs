@@ -1,7 +1,5 @@
 //! Value types, reference types and heap types.
 use crate::codes::{heap_kind, type_kind};
-use crate::proved::base::FromReader as _;
-use crate::proved::items;
 use crate::{BinaryReader, FromReader, Result, library};
 use core::fmt;
 
@@ -514,67 +512,24 @@ pub(crate) fn val_type(ty: library::Type) -> ValType {
     }
 }
 
-impl HeapType {
-    /// The heap type that the proved sources have.
-    #[inline(always)]
-    pub(crate) fn of(ty: items::HeapType) -> Self {
-        match ty {
-            items::HeapType::Func => HeapType::FUNC,
-            items::HeapType::Extern => HeapType::EXTERN,
-            items::HeapType::Any => HeapType::ANY,
-            items::HeapType::Eq => HeapType::EQ,
-            items::HeapType::Struct => HeapType::STRUCT,
-            items::HeapType::Array => HeapType::ARRAY,
-            items::HeapType::I31 => HeapType::I31,
-            items::HeapType::Exn => HeapType::EXN,
-            items::HeapType::NoExn => HeapType::NOEXN,
-            items::HeapType::None => HeapType::NONE,
-            items::HeapType::NoExtern => HeapType::NOEXTERN,
-            items::HeapType::NoFunc => HeapType::NOFUNC,
-            items::HeapType::Concrete(index) => HeapType::Concrete(UnpackedIndex::Module(index)),
-        }
-    }
-}
-
-impl RefType {
-    /// The reference type that the proved sources have.
-    #[inline(always)]
-    pub(crate) fn of(ty: items::RefType) -> Self {
-        RefType { nullable: ty.nullable, heap: HeapType::of(ty.heap) }
-    }
-}
-
-impl ValType {
-    /// The type that the proved sources have.
-    #[inline(always)]
-    pub(crate) fn of(ty: items::ValType) -> Self {
-        match ty {
-            items::ValType::I32 => ValType::I32,
-            items::ValType::I64 => ValType::I64,
-            items::ValType::F32 => ValType::F32,
-            items::ValType::F64 => ValType::F64,
-            items::ValType::V128 => ValType::V128,
-            items::ValType::Ref(ty) => ValType::Ref(RefType::of(ty)),
-        }
-    }
-}
-
 impl<'a> FromReader<'a> for ValType {
-    #[inline]
     fn from_reader(reader: &mut BinaryReader<'a>) -> Result<Self> {
-        reader.by(items::ValType::from_reader).map(ValType::of)
+        let (_, plain) = reader.item(library::value_type)?;
+        Ok(val_type(plain.ty))
     }
 }
 
 impl<'a> FromReader<'a> for RefType {
     fn from_reader(reader: &mut BinaryReader<'a>) -> Result<Self> {
-        reader.by(items::RefType::from_reader).map(RefType::of)
+        let (_, plain) = reader.item(library::reference_type)?;
+        Ok(ref_type(plain.ty))
     }
 }
 
 impl<'a> FromReader<'a> for HeapType {
     fn from_reader(reader: &mut BinaryReader<'a>) -> Result<Self> {
-        reader.by(items::HeapType::from_reader).map(HeapType::of)
+        let (_, plain) = reader.item(library::heap_type)?;
+        Ok(heap_type(plain.ty.heap, plain.ty.index))
     }
 }
 

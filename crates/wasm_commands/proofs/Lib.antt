@@ -3,6 +3,7 @@ pub mod Choosing
 pub mod Coloring
 pub mod Editing
 pub mod Finding
+pub mod Headings
 pub mod Parsing
 pub mod Running
 pub mod Refusing

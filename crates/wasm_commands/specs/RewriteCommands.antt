@@ -1,6 +1,5 @@
 -- What the commands that write a stream do, by their arguments.
-use Rattle.std.specs.Prelude.{◌≡◌, ◌⊎◌, ℕ, ◌+◌, ◌<◌, ◌^◌, Bool, true, false, ◌==◌, ◌||◌, List, [], ◌∷◌, ◌++◌, codes}
-use Rattle.std.specs.Prelude.{bytes_eq}
+use Rattle.std.specs.Prelude.{◌≡◌, ◌⊎◌, ℕ, ◌+◌, ◌<◌, ◌^◌, Bool, true, false, ◌||◌, List, [], ◌∷◌, ◌++◌, codes, bytes_eq}
 use Rattle.std.specs.Prelude.{All, length, nat_lt, Option, Some, None, is_some, map, take, Vec, Result, Ok, Err}
 use Rattle.std.specs.Prelude.{if◌then◌else◌}
 use Rattle.std.specs.Borrow.{Bor}
@@ -24,9 +23,10 @@ use Rattle.wasm_streams.specs.declared.turns.Ended.{Ended}
 use Rattle.wasm_text.specs.declared.devices.ListError.{ListError}
 use Rattle.wasm_edits.specs.declared.fates.Keep.{Keep}
 use Rattle.wasm_console.specs.Devices.{IsUntouched}
+use Rattle.wasm_console.specs.Strips.{Refuses}
 use Rattle.wasm_commands.specs.ArgumentLists.{Read, has_option, is_equals, last_value, operands_in, values_in}
 use Rattle.wasm_commands.specs.Finding.{FindsSection}
-use Rattle.wasm_commands.specs.Messages.{StopsAt, about_word, command_text, input_twice_text, missing_text}
+use Rattle.wasm_commands.specs.Messages.{about_word, command_text, missing_text}
 use Rattle.wasm_commands.specs.Parsing.{texts}
 use Rattle.wasm_commands.specs.Rewrites.{CannotHold, CannotOpen, ChangesFile, EndsRun, Gave, IsOriginal, WritesBytesTo}
 use Rattle.wasm_commands.specs.Rewrites.{WritesTo}
@@ -100,17 +100,6 @@ added_in word = (before_first is_equals word, after_first is_equals word)
 abbrev pub no_addition : (words : List (List ℕ)) → Option (List ℕ)
 no_addition [] = None
 no_addition (word ∷ words) = if is_addition word then no_addition words else Some word
-
--- whether a file is standard input
-abbrev pub is_input : (file : List ℕ) → Bool
-is_input file = bytes_eq file (codes "-")
-
--- whether standard input is among the files of these additions twice, or once more if it was asked for already
-abbrev pub is_asked_again : (asked : Bool) → (additions : List (List ℕ × List ℕ)) → Bool
-is_asked_again asked [] = false
-is_asked_again asked (addition ∷ additions) =
-    if is_input addition.1 then (if asked then true else is_asked_again true additions)
-    else is_asked_again asked additions
 
 -- a name and a file, or a name and the data of that file
 abbrev pub parts_of : Addition → List ℕ × List ℕ
@@ -210,19 +199,10 @@ abbrev pub is_field : (field : List ℕ) → Bool
 is_field field = bytes_eq field (codes "language")
     || (bytes_eq field (codes "processed-by") || bytes_eq field (codes "sdk"))
 
-abbrev pub is_colon : ℕ → Bool
-is_colon b = b == 58
-
--- the name of what is set: from after the `=` to the next colon
-abbrev pub name_set : (word : List ℕ) → List ℕ
-name_set word = before_first is_colon (after_first is_equals word)
-
--- whether a word is a value of `--set`: it has an `=`, before that the name of a field, and after it a name
+-- whether a word is a value of `--set`: it has an `=`, and before that the name of a field
 abbrev pub is_setting : (word : List ℕ) → Bool
 is_setting word =
-    if nat_lt (position_or_len is_equals word) (length word)
-    then (if is_field (before_first is_equals word) then nat_lt 0 (length (name_set word)) else false)
-    else false
+    if nat_lt (position_or_len is_equals word) (length word) then is_field (before_first is_equals word) else false
 
 -- the first word that is none
 abbrev pub no_setting : (words : List (List ℕ)) → Option (List ℕ)
@@ -282,7 +262,7 @@ module _ {S I O : Type 0} (calls : SystemOf S I O) (sources : SourceOf I) (sinks
       (place section.reader).rest name (target_in reads) output forwarded errors status
   EndsExtract wanted name (Ok None) status =
       (status ≡ 1) × Says errors (missing_text verb.Extract name wanted) × IsUntouched output
-  EndsExtract wanted name (Err e) status = StopsAt name e errors status × IsUntouched output
+  EndsExtract wanted name (Err e) status = Refuses e errors status × IsUntouched output
 
   -- The file was read, and the data of the section written, if it has it before its first fault.
   pub record ExtractsHeld (wanted : List ℕ) (skips : ℕ) (name : List ℕ) (status : ℕ) : Type 0 where
@@ -344,7 +324,7 @@ module _ {S I O : Type 0} (calls : SystemOf S I O) (sources : SourceOf I) (sinks
 
   abbrev pub EndsSetting : (name stream : List ℕ) → Result NewData Error → (status : ℕ) → Type 0
   EndsSetting name stream (Ok change) status = SetsSection name stream change.is_there status
-  EndsSetting name stream (Err e) status = StopsAt name e errors status × IsUntouched output
+  EndsSetting name stream (Err e) status = Refuses e errors status × IsUntouched output
 
   -- The file was read, its first section with producers found, and set.
   pub record SetsHeld (name : List ℕ) (status : ℕ) : Type 0 where
@@ -396,17 +376,17 @@ module _ {S I O : Type 0} (calls : SystemOf S I O) (sources : SourceOf I) (sinks
     pub writes : WritesAdded edits original status
 
   -- The stream has its first fault before one of the sections that are looked for, and this was said.
-  pub record FindsFault (file stream : List ℕ) (status : ℕ) : Type 0 where
+  pub record FindsFault (stream : List ℕ) (status : ℕ) : Type 0 where
     pub name : List ℕ
     pub fault : Error
     pub finds : FindsSection name 0 stream (Err fault)
-    pub refuses : StopsAt file fault errors status
+    pub refuses : Refuses fault errors status
     pub sink : IsUntouched output
 
   -- The sections are added to a stream in memory. Those whose name it has are replaced.
   abbrev pub AddsHeld : (stream : List ℕ) (loaded : List (List ℕ × List ℕ)) (original : Original) (status : ℕ) → Type 0
   AddsHeld stream loaded original status =
-      AddsBy (IsAddedTo stream) loaded original status ⊎ FindsFault original.name.now stream status
+      AddsBy (IsAddedTo stream) loaded original status ⊎ FindsFault stream status
 
 module _ {S I O : Type 0} (calls : SystemOf S I O) (sources : SourceOf I) (sinks : SinkOf O) (system : S)
     (reads : List Read) (output : Device) (forwarded : Bool) (errors : Device) where
@@ -464,15 +444,9 @@ module _ {S I O : Type 0} (calls : SystemOf S I O) (sources : SourceOf I) (sinks
       (CannotLoad calls sources sinks system additions errors status × IsUntouched output)
       ⊎ AddsData additions file status
 
-  -- by whether standard input is asked for more than once
-  abbrev pub AddsOnce : (again : Bool) → (additions : List (List ℕ × List ℕ)) (file : List ℕ) (status : ℕ) → Type 0
-  AddsOnce true additions file status = RefusesWith input_twice_text output errors status
-  AddsOnce false additions file status = AddsAll additions file status
-
   abbrev pub AddsWords : (refused : Option (List ℕ)) → (words : List (List ℕ)) (file : List ℕ) (status : ℕ) → Type 0
   AddsWords (Some word) words file status = RefusesWith (no_data_text word) output errors status
-  AddsWords None words file status =
-      AddsOnce (is_asked_again (is_input file) (map added_in words)) (map added_in words) file status
+  AddsWords None words file status = AddsAll (map added_in words) file status
 
   -- The last operand is the file, and those before it are the sections.
   pub record AddsOperands (operands : List (List ℕ)) (status : ℕ) : Type 0 where

@@ -10,13 +10,14 @@ ghost use Rattle.wasm_text.specs.Messages.{Says};
 
 use crate::arguments::Arguments;
 use crate::messages::{
-    Complaint, complain, refuse_file, refuse_run, refuse_target, report_fault, warn_of_missing,
+    Complaint, complain, refuse_file, refuse_run, refuse_target, warn_of_missing,
 };
 use crate::options::{Flag, Verb};
 use crate::rewriting::{end_target, hold};
 use crate::system::System;
 use std::alloc::{AllocError, Global};
 use std::io::Write;
+use wasm_console::report_fault;
 use wasm_feed::{ListError, Sink, WriteSink, write_all};
 use wasm_parser::{CustomSectionReader, Parser, Payload, Result as ParserResult};
 
@@ -191,7 +192,7 @@ fn write_found<S: System, W: Write, E: Sink>(
             warn_of_missing(Verb::Extract, name, wanted, errors);
             1
         }
-        Err(error) => report_fault(name, &error, errors),
+        Err(error) => report_fault(alloc, error, errors),
     }
 }
 

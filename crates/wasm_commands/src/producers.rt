@@ -12,12 +12,13 @@ ghost use Rattle.wasm_text.specs.Calls.{device_of, writer_device};
 use crate::arguments::Arguments;
 use crate::dump::show;
 use crate::extract::{Wanted, find};
-use crate::messages::{Complaint, complain, report_fault};
+use crate::messages::{Complaint, complain};
 use crate::options::{Flag, Verb};
 use crate::rewriting::{Original, hold, write_edited};
 use crate::system::System;
 use std::alloc::{AllocError, Global};
 use std::io::Write;
+use wasm_console::report_fault;
 use wasm_feed::{Edit, NewSection, Sink, WriteSink, all_fit};
 use wasm_parser::{
     CustomSectionReader, ProducersField, ProducersFieldValue, ProducersSectionReader,
@@ -41,7 +42,7 @@ struct Field<'a> {
     values: Vec<ProducersFieldValue<'a>>,
 }
 
-// Parses `FIELD=NAME` or `FIELD=NAME:VERSION`. The name is not empty, and ends at the first colon.
+// Parses `FIELD=NAME` or `FIELD=NAME:VERSION`.
 fn parse_setting(word: &str) -> Option<Setting<'_>>
     ensures { is_some result ≡ is_setting word.now }
 {
@@ -50,9 +51,6 @@ fn parse_setting(word: &str) -> Option<Setting<'_>>
         return None;
     }
     let (name, version) = value.split_once(':').unwrap_or((value, ""));
-    if name.is_empty() {
-        return None;
-    }
     let value = ProducersFieldValue { name, version };
     Some(Setting { field, value })
 }
@@ -327,7 +325,7 @@ fn change<S: System, W: Write, E: Sink>(
     };
     let change = match change_of(alloc, &bytes, settings)? {
         Ok(change) => change,
-        Err(error) => return Ok(report_fault(name, &error, errors)),
+        Err(error) => return Ok(report_fault(alloc, error, errors)),
     };
     let original = Original {
         name,
@@ -358,9 +356,9 @@ fn set_all<S: System, W: Write, E: Sink>(
 ) -> Result<u8, AllocError>
     requires { texts words.now ≡ values_in option.Set (reads_of arguments.now) }
     // Proved: `producers --set` reads the file that is named, or standard input, and writes it with
-    //   a new `producers` section in place of each that it has, or at the end, to the output or to the
-    //   file of `--output`, which is replaced only if all was written; or it says why not. What the
-    //   new section holds is not stated [`set_all` (`SetsProducers`)]
+    //   a `producers` section in place of the first one, or at the end, to the output or to the file
+    //   of `--output`, which is replaced only if all was written; or it says why not. What the new
+    //   section holds is not stated [`set_all` (`SetsProducers`)]
     ensures { SetsProducers S.System S.Input.Source S.Output.Sink system.now (reads_of arguments.now)
         (writer_device W.contents output.old output.new) output.new.forwarded
         (device_of E.taken E.has_failed errors.old errors.new) result }

@@ -9,7 +9,6 @@ pub mod KeptFrames
 pub mod KeptInPlace
 pub mod OnePass
 pub mod PartSteps
-pub mod RestStays
 pub mod SectionEvents
 pub mod ShortestNames
 pub mod StripLaws

@@ -1,6 +1,6 @@
 //! Laws of edits and encodings, each the contract of a function that does nothing.
 ghost use Rattle.wasm_edits.specs.Edited.{EditingComposes, StrippingIsAnEdit};
-ghost use Rattle.wasm_edits.specs.EncodedLaws.{NamesAreShortest, NamesReadBack, NumbersAreShortest, NumbersReadBack, SectionsAreShortest, SectionsReadBack};
+ghost use Rattle.wasm_edits.specs.EncodedLaws.{NamesAreShortest, NamesReadBack, NumbersAreShortest, NumbersReadBack, SectionsReadBack};
 ghost use Rattle.wasm_edits.specs.Stripped.{StrippingTwiceIsOnce};
 
 /// Editing a stream and then the result is one edit, by all edits in turn.
@@ -53,19 +53,10 @@ pub fn names_read_back()
     ensures { NamesReadBack }
 {}
 
-/// An encoded custom section is a well-formed section, which is read as one with its name and its data.
+/// An encoded custom section is a well-formed section.
 ///
 /// (Core specification, Binary format, Modules, Custom Section.)
 pub fn sections_read_back()
-    // Proved: an encoded custom section is well-formed in modules and components, and read as one
-    //   with its name and its data
+    // Proved: an encoded custom section is well-formed in modules and components
     ensures { SectionsReadBack }
-{}
-
-/// No bytes that are read as a custom section with a name and data are fewer than those that it is encoded as.
-///
-/// (Core specification, Binary format, Modules, Custom Section.)
-pub fn sections_are_shortest()
-    // Proved: no shorter bytes are read as a custom section with the same name and data
-    ensures { SectionsAreShortest }
 {}

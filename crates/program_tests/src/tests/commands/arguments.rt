@@ -82,7 +82,7 @@ fn refuses_what_excludes_each_other(rt: HostRuntime) -> Result<(), Fail> {
         said,
     )?;
     let said =
-        b"pulleynavy dump: --names reads each file twice, and standard input can't be: name regular files\n";
+        b"pulleynavy dump: --names reads each file twice, and standard input can't be: name files\n";
     let rows: [&[&str]; 3] = [
         &["dump", "--names"],
         &["dump", "--names", "-"],

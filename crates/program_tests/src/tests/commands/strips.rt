@@ -41,7 +41,7 @@ fn strips_as_options_say(rt: HostRuntime) -> Result<(), Fail> {
 }
 
 const FAULT: &[u8] =
-    b"pulleynavy: bad: 0xc: function section has non-zero count but code section is absent\n";
+    b"function section has non-zero count but code section is absent (at offset 0xc)\n";
 
 const NAMED: [Named<'static>; 3] = [
     Named {
