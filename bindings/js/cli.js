@@ -1,13 +1,13 @@
 #!/usr/bin/env node
 // SPDX-License-Identifier: Apache-2.0 OR MIT
-// The program `pulleynavy`: lists, checks and strips modules.
+// The program `pulleynavy-js`: lists, checks and strips modules.
 import { createReadStream } from "node:fs";
 import { SECTIONS, VERSION, faultText, load } from "./node.js";
 
 const MALFORMED = 1, WRONG_USE = 2, FAILED = 3;
-const USAGE = `usage: pulleynavy [list] FILE                  prints the sections with their sizes in bytes
-       pulleynavy check FILE..                 reads all items and known custom sections, and prints a fault of each file
-       pulleynavy strip [--keep-names] FILE    writes the module without its custom sections to standard output
+const USAGE = `usage: pulleynavy-js [list] FILE                  prints the sections with their sizes in bytes
+       pulleynavy-js check FILE..                 reads all items and known custom sections, and prints a fault of each file
+       pulleynavy-js strip [--keep-names] FILE    writes the module without its custom sections to standard output
 FILE may be -, standard input. The exit status is 1 for a malformed module, 2 for wrong use, and 3 if a file fails.
 `;
 
@@ -92,12 +92,12 @@ async function attempt(library, { command, keepNames }, path) {
 
 async function main(words) {
     if (words.length === 1 && (words[0] === "--help" || words[0] === "--version")) {
-        process.stdout.write(words[0] === "--help" ? USAGE : `pulleynavy ${VERSION}\n`);
+        process.stdout.write(words[0] === "--help" ? USAGE : `pulleynavy-js ${VERSION}\n`);
         return 0;
     }
     const given = parsed(words);
     if (!given) {
-        process.stderr.write("usage: pulleynavy [list|check|strip] FILE, or --help\n");
+        process.stderr.write("usage: pulleynavy-js [list|check|strip] FILE, or --help\n");
         return WRONG_USE;
     }
     const library = await load();
@@ -108,7 +108,7 @@ async function main(words) {
 
 // A reader of the output that went away, as `head`, is no error.
 process.stdout.on("error", error => {
-    if (error.code !== "EPIPE") process.stderr.write(`pulleynavy: ${error.message}\n`);
+    if (error.code !== "EPIPE") process.stderr.write(`pulleynavy-js: ${error.message}\n`);
     process.exit(error.code === "EPIPE" ? 0 : FAILED);
 });
 process.exitCode = await main(process.argv.slice(2));

@@ -119,16 +119,23 @@ def built(target, *names):
 # ---- Rust
 
 
+# What declares the proved sources in a checkout, and what does in the package, which has them as files.
+IN_CHECKOUT, IN_PACKAGE = 'mod proved {\n    include!(concat!(env!("OUT_DIR"), "/proved/mod.rs"));\n}\n', "mod proved;\n"
+
+
 def crate(folder, place):
-    """The crate, with the archives of both machines in lib/, and those for Windows and macOS if they are given."""
-    copy_binding("rust", place, "tests")
-    for machine in MACHINES:
-        copy_to(archive(machine), place, "lib", machine, "libwasm_c.a")
-    for target in desktops.TARGETS:
-        for path in built(target, "libpulleynavy.a", "pulleynavy.lib"):
-            copy_to(path, place, "lib", target, os.path.basename(path))
+    """The crate, with the proved sources as Rust. It has no build script, and nothing that is built."""
     if cargo.version() is None or cargo.version() < cargo.oldest():
         raise Missing("cargo %d.%d or later" % cargo.oldest())
+    copy_binding("rust", place, "tests", "build.rs")
+    common.must(["cargo", "run", "--offline", "--quiet", "--package", "erase", "--target-dir", os.path.join(place, "target"), "--", "--crate", ".", os.path.join(place, "src", "proved")], common.TOP)
+    for name, changes in (("src/lib.rs", {IN_CHECKOUT: IN_PACKAGE}), ("Cargo.toml", {'build = "build.rs"\n': "", '[build-dependencies]\nerase = { path = "../../tools/erase" }\n\n': ""})):
+        text = common.read(place, name)
+        for old, new in changes.items():
+            assert old in text, "%s has no %r" % (name, old)
+            text = text.replace(old, new)
+        common.write(os.path.join(place, name), text)
+    common.must([needed("rustfmt"), "--edition", "2024", "src/lib.rs"], place)
     cargo.offline(os.path.dirname(place))
     common.must(["cargo", "package", "--offline", "--allow-dirty", "--no-verify", "--target-dir", os.path.join(place, "target")], place)
     for path in glob.glob(os.path.join(place, "target", "package", "*.crate")):
@@ -224,6 +231,26 @@ def tarballs(folder, place):
     for machine in MACHINES:
         tarball(machine, folder, place)
     desktop_tarballs(folder, place)
+
+
+# ---- one program for every Linux
+
+STATIC = "x86_64-unknown-linux-gnu"
+
+
+def static(folder, place):
+    """The program as rustc compiles it of the proved sources, with the C library in it: it needs nothing of a system but Linux."""
+    needed("cargo")
+    clone, top = os.path.join(place, "clone"), os.path.join(place, "pulleynavy-%s-x86_64-linux-static" % common.version())
+    cargo.copied(clone)
+    # No path of this machine stays in the program.
+    flags = "-C target-feature=+crt-static -C strip=symbols --remap-path-prefix=%s=pulleynavy" % clone
+    settings = {"RUSTFLAGS": flags, "CARGO_TARGET_DIR": os.path.join(clone, "target")}
+    common.must(["cargo", "build", "--release", "--offline", "--quiet", "--target", STATIC], clone, env=settings)
+    copy_to(os.path.join(clone, "target", STATIC, "release", "pulleynavy"), top, "bin", "pulleynavy")
+    for name in DOCUMENTS:
+        copy_to(source(name), top, "share", "doc", "pulleynavy", name)
+    write_tarball(os.path.join(folder, os.path.basename(top) + ".tar.gz"), top)
 
 
 # ---- Debian

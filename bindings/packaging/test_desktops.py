@@ -1,4 +1,4 @@
-"""Checks of the packages for Windows and macOS: the wheels, the library that the crate links, and that CMake finds and links what the zips and tarballs have."""
+"""Checks of the packages for Windows and macOS: the wheels, and that CMake finds and links what the zips and tarballs have."""
 import glob
 import os
 import re
@@ -9,7 +9,6 @@ import sys
 import tempfile
 import zipfile
 
-import cargo
 import common
 import desktops
 import packages
@@ -32,19 +31,6 @@ LOADER = source("wheel_loader.c")
 JUMP = '__asm__(".globl {0}\\n{0}: jmp *calls+{1}(%rip)");\n'
 # A program that needs nothing of a system but the library, and has the two functions that the library calls.
 ALONE = source("alone.c")
-# The library that the crate links for each target of Rust, in a folder of targets.
-CRATE = {
-    "x86_64-pc-windows-gnu": "x86_64-windows/libpulleynavy.a",
-    "x86_64-pc-windows-msvc": "x86_64-windows/pulleynavy.lib",
-    "aarch64-pc-windows-gnullvm": "aarch64-windows/libpulleynavy.a",
-    "aarch64-pc-windows-msvc": "aarch64-windows/pulleynavy.lib",
-    "x86_64-apple-darwin": "x86_64-macos/libpulleynavy.a",
-    "aarch64-apple-darwin": "aarch64-macos/libpulleynavy.a",
-    "x86_64-unknown-freebsd": "x86_64-freebsd/libpulleynavy.a",
-    "riscv64gc-unknown-linux-gnu": "riscv64-linux/libpulleynavy.a",
-}
-# One that it has no library for.
-NO_TARGET = "powerpc64le-unknown-linux-gnu"
 # How a program is linked with the shared library, as llvm-readobj prints it.
 NEEDED = {"windows": "pulleynavy.dll", "macos": "@rpath/libpulleynavy.dylib"}
 # CMake asks this program for the version of macOS.
@@ -121,32 +107,6 @@ def loader(folder, wheel):
     return common.write(os.path.join(folder, "loader.c"), text), "Z:" + library.replace("/", "\\")
 
 
-def wrong_crate(targets, folder):
-    """The targets for which the build script of the crate links another library than that of the target."""
-    if not cargo.found() or not common.found("rustc"):
-        return
-    place = os.path.join(folder, "crate")
-    packages.crate(folder, place)
-    [made] = glob.glob(folder + "/*.crate")
-    shutil.unpack_archive(made, folder, "gztar")
-    package = made[: -len(".crate")]
-    must(["rustc", "--edition", "2024", package + "/build.rs", "-o", folder + "/build"])
-    for triple in [*CRATE, NO_TARGET]:
-        # What cargo passes to a build script for a target.
-        target = dict(re.findall(r'^target_(arch|os|env)="(.*)"$', must(["rustc", "--print", "cfg", "--target", triple]), re.M))
-        settings = {"CARGO_CFG_TARGET_" + name.upper(): target.get(name, "") for name in ("arch", "os", "env")}
-        said = must([folder + "/build"], package, CARGO_MANIFEST_DIR=package, HOST="x86_64-unknown-linux-gnu", **settings)
-        found = dict(re.findall(r"^cargo::(rustc-link-search|rustc-link-lib|error)=(?:native=|static:\+verbatim=)?(.*)$", said, re.M))
-        if triple == NO_TARGET:
-            if "pulleynavy has no library for powerpc64 and linux" not in found.get("error", ""):
-                yield "build.rs says %r of %s" % (said, triple)
-            continue
-        linked = os.path.join(found.get("rustc-link-search", ""), found.get("rustc-link-lib", ""))
-        wanted = os.path.join(targets, CRATE[triple])
-        if os.path.basename(linked) != os.path.basename(wanted) or common.read_bytes(linked) != common.read_bytes(wanted):
-            yield "the crate links %s on %s: %s" % (linked, triple, found)
-
-
 def unpacked(folder, target):
     top = "pulleynavy-%s-%s" % (common.version(), target)
     place = os.path.join(folder, "unpacked here")
@@ -188,7 +148,6 @@ def wrongly_linked(folder, target):
 def differences(targets, folder):
     """What is wrong in the packages of a folder of targets, without what wine runs. Makes the packages in another folder."""
     differ = list(wrong_wheels(folder, WHEELS)) if make(targets, folder) else []
-    differ += wrong_crate(targets, folder)
     for target in WHEELS:
         if target != "x86_64-windows":
             differ += wrongly_linked(folder, target)

@@ -4,9 +4,9 @@
     tools/try packages npm wheels         some of them
     tools/try packages --targets TARGETS  also makes those for Windows and macOS, which tools/try desktops tries
 
-A kind is one of crate, wheels, scan, npm, tarballs, deb, chroot and oldest. `chroot` makes a system with debootstrap that has Python, gcc, Node and
+A kind is one of crate, wheels, scan, npm, tarballs, static, deb, chroot and oldest. `chroot` makes a system with debootstrap that has Python, gcc, Node and
 cargo, and no toolchain: a clone of the last commit whose programs run at once, `./install`, a C program through pkg-config, and each package. `oldest`
-makes one with the oldest Rust that the crate needs. Each program lists the counted sections of a golden stream. Programs that are missing are reported in one line, and what needs them is skipped.
+makes one with the oldest Rust that the crate needs and nothing else: the crate, and the program and the tests of a clone. Each program lists the counted sections of a golden stream. Programs that are missing are reported in one line, and what needs them is skipped.
 """
 import csv
 import glob
@@ -24,9 +24,15 @@ import desktops
 import generate_manuals
 import modelled
 import packages
+import suites
 from common import Failed, require, write
 
 MANIFEST = '[package]\nname = "t"\nversion = "0.0.0"\nedition = "2021"\n\n[dependencies]\npulleynavy = "%s"\n' % common.version()
+VERSIONS = """cmake_minimum_required(VERSION 3.19)
+project(versions NONE)
+find_package(pulleynavy %s QUIET CONFIG)
+message(STATUS "found: ${pulleynavy_FOUND}")
+"""
 # How many files the example scans.
 FILES = 10_000
 # What the systems of Debian have, in which packages are tried. The second has the oldest Rust that the crate needs.
@@ -54,6 +60,34 @@ def with_cmake(place, prefix, sources, version, *words, **settings):
     common.must(["cmake", "-S", place, "-B", place + "/out", "-DCMAKE_PREFIX_PATH=" + prefix, *words], env=settings)
     common.must(["cmake", "--build", place + "/out"], env=settings)
     return place + "/out"
+
+
+def requests(version):
+    """Versions that a project asks for, and whether this version is one of them: each minor version of 0 may change anything."""
+    major, minor, patch = map(int, version.split("."))
+    series, other, patch_after = "%d.%d" % (major, minor), "%d.%d" % (major, minor + 1), "%d.%d.%d" % (major, minor, patch + 1)
+    yield from ((text, True) for text in ("", series, version, version + " EXACT", "%s...<%s" % (series, other), "%s...%s" % (series, version)))
+    before = "%d.%d" % (major, minor - 1) if minor else "9.9"
+    yield from ((text, False) for text in (before, before + ".0 EXACT", other, patch_after, patch_after + " EXACT", "%d.%d" % (major + 1, minor)))
+
+
+def is_found(place, prefix, request):
+    """Whether CMake finds a package of the version that a project asks for, below a prefix."""
+    folder = tempfile.mkdtemp(dir=place)
+    write(folder + "/CMakeLists.txt", VERSIONS % request)
+    return "found: 1" in common.must(["cmake", "-S", folder, "-B", folder + "/out", "-DCMAKE_PREFIX_PATH=" + prefix], env={"PULLEYNAVY_LIB": None})
+
+
+def other_pythons():
+    """The Pythons from 3.8 on that this machine has besides Debian's: those on the path, and those of pyenv."""
+    pyenv = os.environ.get("PYENV_ROOT", os.path.expanduser("~/.pyenv"))
+    names = [shutil.which("python3.%d" % minor) for minor in range(8, 30)]
+    known = {}
+    for path in [*filter(None, names), *sorted(glob.glob(os.path.join(pyenv, "versions", "3.*", "bin", "python3")))]:
+        done = subprocess.run([path, "-c", "import ctypes, sys; print(sys.version_info[1])"], stdout=subprocess.PIPE, stderr=subprocess.DEVNULL, text=True)
+        if done.returncode == 0 and int(done.stdout) >= 8:
+            known.setdefault(int(done.stdout), path)
+    return [path for minor, path in sorted(known.items()) if not os.path.exists("/usr/bin/python3.%d" % minor)]
 
 
 class System:
@@ -134,10 +168,8 @@ class Trial:
         for words in (["init"], ["add", "config.json"], ["commit", "--message", "An empty index"]):
             self.run("git", "-c", "user.name=index", "-c", "user.email=index@localhost", *words, folder=index)
         self.run("cargo", "publish", "--dry-run", "--quiet", "--allow-dirty", "--index", "file://" + index, folder=unpacked)
-        other = {"CARGO_CFG_TARGET_ARCH": "powerpc64", "CARGO_CFG_TARGET_OS": "linux", "CARGO_MANIFEST_DIR": unpacked}
-        self.run("rustc", "--edition", "2024", "build.rs", "-o", self.place + "/build", folder=unpacked)
-        said = self.run(self.place + "/build", folder=unpacked, more=other)
-        require("cargo::error=pulleynavy has no library for powerpc64" in said, "build.rs says %r of a processor without a library" % said)
+        made = [name for name in os.listdir(unpacked) if name in ("build.rs", "lib", "target")]
+        require(not made and not glob.glob(unpacked + "/**/*.a", recursive=True), "the crate has %s" % ", ".join(made or ["an archive"]))
 
     # ---- Python
 
@@ -158,12 +190,15 @@ class Trial:
         self.expect(self.run(python, program, self.file), "the wheel")
         # The tests run in a folder that has nothing else.
         shutil.copytree(packages.source("bindings", "python", "tests"), self.place + "/suite/tests")
-        self.run(python, "-m", "unittest", "discover", "-s", "tests", "-t", ".", folder=self.place + "/suite")
-        said = self.run(os.path.join(os.path.dirname(python), "pulleynavy"), "list", self.file)
-        require("import (1)" in said, "pulleynavy list does not list the sections")
+        shutil.unpack_archive(wheel, self.place + "/wheel", "zip")
+        for other, settings in [(python, {}), *((path, {"PYTHONPATH": self.place + "/wheel"}) for path in other_pythons())]:
+            settings["PULLEYNAVY_STREAMS"] = common.GOLDEN
+            said = self.run(other, "-B", "-m", "unittest", "discover", "-s", "tests", "-t", ".", folder=self.place + "/suite", more=settings)
+            print("wheels: %d tests with %s" % (suites.passed_in_python(said), self.run(other, "--version").strip()), flush=True)
+        said = self.run(os.path.join(os.path.dirname(python), "pulleynavy-py"), "list", self.file)
+        require("import (1)" in said, "pulleynavy-py list does not list the sections")
         # The wheel says that it is for musl too, so its library is loaded there.
         if common.found("musl-gcc"):
-            shutil.unpack_archive(wheel, self.place + "/wheel", "zip")
             self.run("musl-gcc", write(self.place + "/loader.c", source("loader.c")), "-o", "loader")
             self.run(self.place + "/loader", one(self.place + "/wheel/pulleynavy/libpulleynavy.so.*"))
         python = self.venv("of_sdist", sources, "--system-site-packages")
@@ -210,7 +245,7 @@ class Trial:
         self.run("npm", "install", "--silent", "--offline", "--no-audit", "--no-fund", self.package("*.tgz"), folder=project)
         write(project + "/t.js", source("program.js"))
         self.expect(self.run("node", "t.js", self.file, folder=project), "the npm package")
-        require("import (1)" in self.run("npx", "--offline", "pulleynavy", self.file, folder=project), "npx pulleynavy does not list the sections")
+        require("import (1)" in self.run("npx", "--offline", "pulleynavy-js", self.file, folder=project), "npx pulleynavy-js does not list the sections")
         write(project + "/exports.js", source("exports.js"))
         self.run("node", "exports.js", folder=project)
         if common.found("tsc"):
@@ -237,8 +272,19 @@ class Trial:
             self.found_by_cmake(prefix)
         require(self.end in self.run(prefix + "/bin/wasm_list", stream=self.stream), "wasm_list of the tarball does not list the stream")
 
+    def static(self):
+        """The program runs where there is nothing but it: as root in a folder that has it alone."""
+        shutil.unpack_archive(self.package("pulleynavy-*-linux-static.tar.gz"), self.place)
+        program = one(self.place + "/pulleynavy-*-linux-static/bin/pulleynavy")
+        require("INTERP" not in self.run("readelf", "-lW", program), "the static program needs a loader")
+        alone = os.path.join(self.place, "alone")
+        os.mkdir(alone)
+        shutil.copy(program, alone)
+        words = ["chroot", alone, "/pulleynavy"] if os.geteuid() == 0 else [program]
+        require(self.end in self.run(*words, "list", stream=self.stream), "the static program does not list the stream")
+
     def found_by_cmake(self, prefix):
-        """Builds the C program as CMake finds the library below a prefix: the shared one and the static one. A wrong version is not found."""
+        """Builds the C program as CMake finds the library below a prefix: the shared one and the static one. Other versions are not found."""
         place, program, version = self.place + "/cmake", write(self.place + "/t.c", source("program.c")), ".".join(common.version().split(".")[:2])
         made = with_cmake(place, prefix, [program], version)
         for name in ("pulleynavy", "static"):
@@ -246,11 +292,8 @@ class Trial:
             is_shared = packages.soname() in self.run("readelf", "-dW", built)
             require(is_shared == (name == "pulleynavy"), "CMake links the %s library otherwise" % name)
             self.expect(self.run(built, stream=self.stream), "the C program that CMake built with the %s library" % name)
-        try:
-            said = with_cmake(place + "_old", prefix, [program], "0.9")
-        except Failed as failed:
-            said = str(failed)
-        require("compatible" in said, "CMake does not say that version 0.9 is another one")
+        for request, is_there in requests(common.version()):
+            require(is_found(place, prefix, request) == is_there, "CMake finds version %s: %s" % (request, not is_there))
 
     # ---- Debian
 
@@ -309,7 +352,7 @@ class Trial:
         system.write("t.py", source("program.py"))
         system.inside("python3 -m venv env; env/bin/pip install --quiet --no-index wheels/*")
         self.expect(system.inside("env/bin/python t.py a.wasm"), "the wheel in a clean system")
-        require("import (1)" in system.inside("env/bin/pulleynavy list a.wasm"), "pulleynavy list of the wheel does not list the sections")
+        require("import (1)" in system.inside("env/bin/pulleynavy-py list a.wasm"), "pulleynavy-py list of the wheel does not list the sections")
 
     def npm_inside(self, system):
         """The package in Debian's Node, which comes without npm: it is unpacked where npm would. Its tests run there too."""
@@ -346,10 +389,16 @@ class Trial:
             trial(system)
 
     def oldest(self):
-        """The crate with the oldest Rust that it needs."""
+        """The crate with the oldest Rust that it needs, and in a clone the program and the tests with cargo alone."""
         system = System(self.place, *OLDEST_RUST)
         system.put(self.file, "a.wasm")
         self.crate_inside(system)
+        cargo.copied(self.place + "/clone")
+        system.put(self.place + "/clone", "clone")
+        listed = system.inside("cd clone; cargo run --release --offline --quiet -- list ~/a.wasm")
+        require(self.end in listed, "the program of a clone does not list the stream")
+        passed = re.findall(r"(\d+) passed", system.inside("cd clone; cargo test --offline 2>&1"))
+        print("oldest: the program and %d tests run in a clone" % sum(map(int, passed)))
 
 
 # The programs that each kind needs, and the kinds of packages that it tries.
@@ -360,6 +409,7 @@ KINDS = {
     "npm": (["npm", "node"], ["npm"]),
     "scan": (["dask-scheduler"], ["wheels"]),
     "tarballs": (["cc", "pkg-config", "readelf"], ["tarballs"]),
+    "static": (["cargo", "git", "readelf"], ["static"]),
     "deb": (["dpkg-deb", "nm", "readelf"], ["deb"]),
     "chroot": ([*IN_CHROOT, "git"], ["deb", "wheels", "npm", "crate"]),
     "oldest": (IN_CHROOT, ["crate"]),

@@ -22,6 +22,7 @@ OTHERS = {
     ("wasm_edits", "Fates"): "what stripping does to a part",
     ("wasm_edits", "Edits"): "what edits of custom sections say of sections",
     ("wasm_edits", "Edited"): "an edited stream",
+    ("wasm_edits", "EditedReading"): "the reading of an edited stream",
     ("wasm_edits", "Encoded"): "the bytes of a new custom section",
     ("wasm_edits", "Stripped"): "what remains of a stripped stream",
 }

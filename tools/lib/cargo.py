@@ -38,10 +38,20 @@ def found():
     return False
 
 
+def copied(clone):
+    """Copies the files of the repository, without what was built: what cargo sees of a clone. Returns the folder of the crate in it."""
+    listed = subprocess.run(["git", "ls-files", "-z"], cwd=common.TOP, stdout=subprocess.PIPE, check=True).stdout.decode().split("\0")
+    for name in filter(None, listed):
+        path = os.path.join(clone, name)
+        os.makedirs(os.path.dirname(path), exist_ok=True)
+        shutil.copy2(os.path.join(common.TOP, name), path)
+    return os.path.join(clone, "bindings", "rust")
+
+
 def own_row(digest):
     """What crates.io would say of the crate, of which the package has this checksum."""
     serde = {"name": "serde", "req": "^1", "features": [], "optional": True, "default_features": False, "target": None, "kind": "normal"}
-    row = {"name": "pulleynavy", "vers": common.version(), "deps": [serde], "cksum": digest, "yanked": False, "links": "wasm_c"}
+    row = {"name": "pulleynavy", "vers": common.version(), "deps": [serde], "cksum": digest, "yanked": False}
     return {**row, "features": {"default": ["alloc"], "alloc": [], "std": ["alloc"], "serde": ["dep:serde"]}}
 
 

@@ -6,8 +6,10 @@ import common
 
 COMMANDS = {
     "compare": {
+        "builds": ("compare_builds", "the program that cargo builds with that of Rattle's compiler, on random streams"),
         "listings": ("compare_streams:listings", "listings of random streams"),
         "check": ("compare_dumps:check", "the malformed items of random streams and of modules"),
+        "checks": ("compare_checks", "what `check` of the command line, the wheel and the npm package say of changed files"),
         "dump": ("compare_dumps:dump", "dumps of random streams and of modules"),
         "edits": ("compare_streams:edits", "streams with custom sections that were added, replaced and extracted"),
         "forms": ("compare_forms", "dumps as JSON, with names, bytes, colors and hexadecimal offsets, with those in lines"),
@@ -20,15 +22,20 @@ COMMANDS = {
         "surface": ("compare_surface", "the public items of the crate for Rust with those of wasmparser 0.263.0"),
     },
     "try": {
+        "judges": ("try_judges", "what judges the sources, on sources that are wrong"),
         "tests": ("try_tests", "the tests of tests/ and the benchmark, without proofs"),
         "examples": ("try_examples", "the examples of the doc comments, without proofs"),
-        "c": ("test_c", "the C library, its examples, and the bindings for Rust and Python"),
+        "cargo": ("try_cargo", "the tests and the program that cargo builds of the proved sources, with nothing else"),
+        "rust": ("try_rust", "the crate for Rust programs"),
+        "c": ("test_c", "the C library, its examples, and the binding for Python"),
         "cross": ("try_desktops:cross", "the C library for aarch64, under qemu"),
         "desktops": ("try_desktops", "the C library for Windows, macOS, FreeBSD and riscv64, and its packages"),
         "js": ("test_js", "the JavaScript package in Node and browsers, and bundles of it"),
         "documents": ("try_documents", "the programs of docs/CALLING.md, in each language"),
         "page": ("test_page", "the page, in Chromium and Firefox"),
         "packages": ("test_packages", "each package as its user would, and a clone in a system without the toolchain"),
+        "first_proof": ("try_first_proof", "the commands and files of docs/FIRST_PROOF.md"),
+        "scale": ("try_scale", "the first command of docs/SCALE.md, on 800 files"),
         "readme": ("try_readme", "every command and program of README.md, in a new clone"),
     },
     "generate": {

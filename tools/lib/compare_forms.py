@@ -6,10 +6,10 @@
 Each line of a dump as JSON must be an object as Python reads it, with no name twice, in UTF-8; there are as many as lines. The line that an
 object has by docs/DUMP.md is the line of the dump: each value is the same, and a field that the line leaves out is false or null. With --names
 the lines are the same but for the names that the model reads in the custom sections `name` or, if there is none, in `linking`, also as JSON.
-Without, those of symbols that come in a section `linking` before are shown. Of two files each object follows
-that of its file. Of a dump with bytes the rows must go on where the one before ends, show sixteen bytes at most and together the stream, up
-to the fault that ends it, and the rest must be the dump in lines. With --hex the offsets of lines and rows must be the same in hexadecimal,
-and with --color the text must be the same. tools/compare dump compares the dump in lines with a model.
+Without, those of symbols that come in a section `linking` before are shown. Each object has its file, also if there are two. Of a dump with bytes
+the rows must go on where the one before ends, show sixteen bytes at most and together the stream, up to the fault that ends it, and the rest must
+be the dump in lines. With --hex the offsets of lines and rows must be the same in hexadecimal, and with --color the text must be the same.
+tools/compare dump compares the dump in lines with a model.
 """
 import json
 import random
@@ -116,8 +116,12 @@ def item_line(said):
     return "  " * said["level"] + " ".join(filter(None, words))
 
 
-def objects_in(output):
-    return [json.loads(text, object_pairs_hook=once) for text in output.decode().splitlines()]
+def objects_in(output, path):
+    """The objects of a dump of a file, of which each says at its end which file it is of."""
+    objects = [json.loads(text, object_pairs_hook=once) for text in output.decode().splitlines()]
+    for said in objects:
+        assert list(said)[-1] == "file" and said.pop("file") == path, "an object of another file than %s: %s" % (path, said)
+    return objects
 
 
 def check_objects(lines, objects):
@@ -173,10 +177,10 @@ class Dumps:
     def check(self, stream):
         text, rows, hexadecimal = self.run(), self.run("--bytes"), self.run("--hex")
         lines, with_names = text.decode().splitlines(), self.run("--names").decode().splitlines()
-        check_objects(lines, objects_in(self.run("--json")))
+        check_objects(lines, objects_in(self.run("--json"), self.path))
         for found in map(common.first_difference, (lines, with_names), dumps(MODEL, stream)):
             assert not found, found
-        check_objects(with_names, objects_in(self.run("--names", "--json")))
+        check_objects(with_names, objects_in(self.run("--names", "--json"), self.path))
         check_bytes(lines, rows, stream)
         check_hexadecimal(text, hexadecimal)
         check_hexadecimal(rows, self.run("--hex", "--bytes"))
@@ -184,11 +188,11 @@ class Dumps:
         assert len(self.statuses) == 1, "statuses %s" % sorted(self.statuses)
 
     def check_files(self):
-        """Two files: the first object, and the first line, of each have its path as it was given."""
-        lines, objects = self.run(self.path).decode().splitlines(), objects_in(self.run("--json", self.path))
-        alone, alone_objects = self.run().decode().splitlines(), objects_in(self.run("--json"))
+        """Two files: the first line, and each object, of each have its path as it was given."""
+        lines, objects = self.run(self.path).decode().splitlines(), objects_in(self.run("--json", self.path), self.path)
+        alone, alone_objects = self.run().decode().splitlines(), objects_in(self.run("--json"), self.path)
         assert lines == 2 * [self.path + ":", *alone], "other lines of two files"
-        assert objects == 2 * [{"file": self.path}, *alone_objects], "other objects of two files"
+        assert objects == 2 * alone_objects, "other objects of two files"
 
 
 def forms_differ(words, stream):

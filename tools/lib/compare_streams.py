@@ -151,10 +151,10 @@ CHOICES = [
 ]
 
 
-def message(line):
-    """What is said of the fault that a listing ends with."""
+def message(line, path=""):
+    """What is said of the fault that a listing ends with, in a file or, without a path, in the standard input."""
     _, offset, said = line.split(" ", 2)
-    return ("%s (at offset 0x%x)\n" % (said, int(offset))).encode()
+    return ("pulleynavy: %s: 0x%x: %s\n" % (path or "standard input", int(offset), said)).encode()
 
 
 def strip_differs(given, data):
@@ -165,8 +165,8 @@ def strip_differs(given, data):
         common.write(file.name, data)
         for options, stays in CHOICES:
             left = model.changed(data, lambda part, name: part if name is None or stays(name) else b"")
-            wanted = (b"", 1, message(lines[-1])) if programs.status(lines) else (left, 0, b"")
             for way, stream in (([], data), ([file.name], b"")):
+                wanted = (b"", 1, message(lines[-1], *way)) if programs.status(lines) else (left, 0, b"")
                 text = differing(programs.run([*words, *options, *way], stream), wanted)
                 if text:
                     return "strip %s %s: %s" % (" ".join(options), "FILE" if way else "", text)
@@ -241,13 +241,15 @@ def edit_differs(given, data):
     lines, rng = model.reading(data, 0, True), random.Random(len(data) + sum(data))
     added, replaces = [(name.encode(), content) for name, content in rng.choices(NEW, k=rng.randrange(1, 4))], rng.random() < 0.5
     wanted = edited(model, data, added, replaces) if programs.status(lines) == 0 else b""
-    told = (wanted, programs.status(lines), b"" if wanted else message(lines[-1]))
+    def told(*path):
+        return wanted, programs.status(lines), b"" if wanted else message(lines[-1], *path)
+
     with tempfile.TemporaryDirectory() as folder:
         words = ["--replace"] * replaces
         for number, (name, content) in enumerate(added):
             words.append("%s=%s" % (name.decode(), common.write(os.path.join(folder, str(number)), content)))
         path = common.write(os.path.join(folder, "a.wasm"), data)
-        text = differing(programs.run([*adds, *words, path]), told) or differing(programs.run([*adds, *words, "-"], data), told)
+        text = differing(programs.run([*adds, *words, path]), told(path)) or differing(programs.run([*adds, *words, "-"], data), told())
     if text or not wanted:
         return text
     if programs.status(model.reading(wanted, 0, True)):

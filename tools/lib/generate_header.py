@@ -309,29 +309,14 @@ def objects(form, row, kind_of):
     return "".join(form % (rust_name(name), text) for name, text in rows.items())
 
 
-def rust():
-    """The declarations for Rust: in the sources a slice crosses as a pointer and then a length."""
-    text = "//! The declarations of the library, written by `tools/generate header` from its sources.\n"
-    text += objects("\n#[repr(C)]\n#[derive(Clone, Copy, Debug)]\npub struct %s {\n%s}\n", "    pub %s: %s,\n", rust_name) + '\nunsafe extern "C" {\n'
-    for call, _, arguments, result in all_calls():
-        words = []
-        for name, kind in arguments:
-            to, may_change, length = crossing(kind) or (kind, None, None)
-            mark = ("*mut " if may_change else "*const ") if length else "&mut " if may_change else "&" if to != kind else ""
-            words += ["%s: %s%s" % (name, mark, rust_name(to)), *(["%s_%s: usize" % (name, length)] if length else [])]
-        line = "    pub fn %s(%s)%s;\n" % (call, ", ".join(words), " -> " + rust_name(result) if result else "")
-        if len(line) > 101:
-            line = line.replace("(", "(\n        ", 1).replace(", ", ",\n        ").replace(")", ",\n    )", 1)
-        text += line
-    return text + "}\n"
-
-
 def codes():
-    """The numbers of enumerations for Rust, a module for each."""
-    text = "//! The numbers of enumerations in the C library, written by `tools/generate header` from its sources.\n"
+    """The numbers of faults for Rust, and those of what faults name, a module for each."""
+    text = "//! The numbers of faults in the C library, written by `tools/generate header` from its sources.\n"
     for _, tag, rows in short_enumerations():
-        numbers = "".join("    pub(crate) const %s: u32 = %d;\n" % row for row in rows)
-        text += "\npub(crate) mod %s {\n%s}\n" % (tag[len("pulleynavy_") :], numbers)
+        name = tag[len("pulleynavy_") :]
+        if name in ("fault_kind", "number_kind", "lead", "core_start"):
+            numbers = "".join("    pub(crate) const %s: u32 = %d;\n" % row for row in rows)
+            text += "\npub(crate) mod %s {\n%s}\n" % (name, numbers)
     return text
 
 
@@ -413,7 +398,6 @@ BINDINGS = os.path.join(common.TOP, "bindings")
 # Each file that is written, by what writes it.
 TARGETS = {
     TARGET: header,
-    os.path.join(BINDINGS, "rust", "src", "ffi.rs"): rust,
     os.path.join(BINDINGS, "rust", "src", "codes.rs"): codes,
     os.path.join(BINDINGS, "python", "pulleynavy", "declared.py"): python,
     os.path.join(BINDINGS, "js", "declared.js"): javascript,
@@ -421,7 +405,20 @@ TARGETS = {
 }
 
 
+def missing_targets():
+    """The systems with processors of docs/PLATFORMS.md that the header does not name as targets."""
+    sentence = re.search(r" \* Targets: (.*?)\. ", TEMPLATE, re.S)[1].replace("\n * ", " ")
+    # A system comes before its processors.
+    parts = {part.split()[0]: part.split() for part in re.split(r", (?=\w+ on )", sentence)}
+    for system, processor in re.findall(r"^\| (\w+), (\S+) \|", common.read("docs", "PLATFORMS.md"), re.M):
+        if processor not in " ".join(parts.get(system, [])).replace(",", "").split():
+            yield "%s on %s" % (system, processor)
+
+
 def made():
+    lacking = list(missing_targets())
+    if lacking:
+        common.stop(common.DIFFERS, "the header does not name %s as a target" % ", ".join(lacking))
     page = common.read("docs", "C.md")
     for name in [path[:-3] for path in sorted(os.listdir(os.path.join(CRATE, "src"))) if path.endswith(".rt")]:
         if name not in SOURCES and "no_mangle" in source(name):

@@ -1,12 +1,14 @@
 /* A library to preload, which makes allocations of a program fail: malloc, calloc and realloc return a null pointer at the call with the
  * number REFUSE_CALL, and where REFUSE_LATER is set, at every later one. The calls are counted from the program's start. Where REFUSE_ABOVE
  * is set, so does each for more bytes than that. For each that fails, a byte is written to the file descriptor REFUSE_LOG. free is not touched.
+ * Where REFUSE_SYNC is set, fsync fails with EIO.
  */
 /* The toolchain's compiler has no headers: these are the calls of glibc that this file makes. */
 typedef __SIZE_TYPE__ size_t;
 #define NULL ((void *)0)
 #define RTLD_NEXT ((void *)-1L)
 #define ENOMEM 12
+#define EIO 5
 void *dlsym(void *library, const char *name);
 int *__errno_location(void);
 char *getenv(const char *name);
@@ -17,6 +19,7 @@ void abort(void);
 static void *(*real_malloc)(size_t);
 static void *(*real_calloc)(size_t, size_t);
 static void *(*real_realloc)(void *, size_t);
+static int (*real_fsync)(int);
 
 static unsigned long first, calls, most;
 static int later, log_to, resolving;
@@ -86,4 +89,14 @@ void *realloc(void *old, size_t size) {
     if (!real_realloc)
         resolve();
     return real_realloc(old, size);
+}
+
+int fsync(int file) {
+    if (getenv("REFUSE_SYNC")) {
+        *__errno_location() = EIO;
+        return -1;
+    }
+    if (!real_fsync)
+        *(void **)&real_fsync = dlsym(RTLD_NEXT, "fsync");
+    return real_fsync(file);
 }

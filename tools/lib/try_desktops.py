@@ -128,7 +128,7 @@ def on_windows(library, archive, made, streams):
             differ += documented(library, archive, folder, system)
         for wheel in glob.glob(made + "/*-win_amd64.whl"):
             differ += test_c.all_differences(from_wheel(wheel, folder, system), streams[::SAMPLE])
-        differ += wine.wrong_crate(library, system)
+        differ += wine.wrong_crate(system)
         if len(system.repeated()) > wine.MOST_REPEATED:
             differ.append("wine lost %d runs" % len(system.repeated()))
     print("x86_64-windows, run by wine: %d streams, %d differ" % (len(streams), len(differ)), flush=True)

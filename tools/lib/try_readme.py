@@ -18,8 +18,8 @@ import common
 
 PAGE = os.path.join(common.TOP, "README.md")
 MOST_BYTES = 8192
-# Commands that are the gate itself, and those that tools/try packages runs.
-ELSEWHERE = ["rt ci", ".ci/run", "pip install dist/", "npm install dist/", "dpkg -i dist/", "pulleynavy dump --names m.wasm"]
+# Commands that are the gate itself, and those that tools/try packages and tools/try cargo run.
+ELSEWHERE = ["rt ci", ".ci/run", "cargo run --release -- dump FILE", "cargo test", "pip install dist/", "npm install dist/", "dpkg -i dist/", "pulleynavy dump --names m.wasm"]
 # What stands for what in a command.
 STANDS_FOR = {"FILE...": "a.wasm", "FILE": "a.wasm", "OTHER": "other.wasm", "NAME=DATA": "note=data"}
 COMMANDS = ("./pulleynavy ", "./install ", "tools/package")
@@ -106,7 +106,7 @@ NEEDED = {"c": ["cc", "pkg-config"], "js": ["node"], "python": ["cc"], "rust": [
 def commands(text):
     """The commands of the page: lines of blocks, and words in code that begin with a program."""
     plain = re.sub(r"^```.*?^```$", "", text, flags=re.M | re.S)
-    for line in re.findall(r"^    (?:\$ )?((?:\./|rt |\.ci/|pulleynavy ).*)$", plain, re.M):
+    for line in re.findall(r"^    (?:\$ )?((?:\./|rt |\.ci/|cargo |pulleynavy ).*)$", plain, re.M):
         yield re.split(r" {3,}", line)[0]
     yield from re.findall(r"`((?:\./|tools/package|pip |npm |dpkg )[^`]*)`", plain)
 

@@ -80,14 +80,14 @@ def compiler():
     return None
 
 
-def wrong_crate(library, system):
-    """What is wrong with the tests of the crate for Rust, linked with the archive for Windows of this folder. Debian has no standard library of a
+def wrong_crate(system):
+    """What is wrong with the tests of the crate for Rust on Windows. Debian has no standard library of a
     new Rust for Windows, so cargo builds it from Debian's sources of Rust."""
     found = compiler() if cargo.found() else None
     if not found:
         return []
-    place, crate = os.path.join(system.folder, "rust"), os.path.join(system.folder, "rust", "crate")
-    shutil.copytree(os.path.join(common.TOP, "bindings", "rust"), crate)
+    place = os.path.join(system.folder, "rust")
+    crate = cargo.copied(os.path.join(place, "clone"))
     random, dll = common.write(os.path.join(place, "random.c"), RANDOM), os.path.join(place, "bcryptprimitives.dll")
     subprocess.run([COMPILERS[0], "-shared", "-static", "-o", dll, random, "-ladvapi32"], check=True)
     # A script that runs a program of cargo under wine.
@@ -97,7 +97,7 @@ def wrong_crate(library, system):
     # Cargo looks for the optional dependency too, and it isn't among the crates that the standard library needs.
     manifest = os.path.join(crate, "Cargo.toml")
     common.write(manifest, re.sub(r"^serde = .*\n", "", common.read(manifest), flags=re.M))
-    settings = {"RUSTC": found[0], "RUSTC_BOOTSTRAP": "1", "PULLEYNAVY_LIB": library, "PULLEYNAVY_GOLDEN": common.GOLDEN}
+    settings = {"RUSTC": found[0], "RUSTC_BOOTSTRAP": "1", "PULLEYNAVY_GOLDEN": common.GOLDEN}
     settings |= {"CARGO_TARGET_DIR": os.path.join(place, "target")}
     name = "CARGO_TARGET_%s_" % TARGET.upper().replace("-", "_")
     settings |= {name + "LINKER": COMPILERS[0], name + "RUNNER": runner}

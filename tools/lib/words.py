@@ -31,7 +31,7 @@ AVOIDED = [(re.compile(pattern), instead) for pattern, instead in AVOIDED]
 COMMENT = re.compile(r"^\s*(?:///?!?|-- |# |/?\*) ?(.*)|\s(?://|-- |# )(.*)")
 CODE = re.compile(r"`[^`]*`")
 # Old pages stay as they were written, and generated files follow their sources.
-LEFT_OUT = ("docs/history/", "prebuilt/", "tools/lib/words.py", "bindings/js/declared", "bindings/rust/src/ffi.rs")
+LEFT_OUT = ("docs/history/", "prebuilt/", "tools/lib/words.py", "bindings/js/declared")
 
 
 def texts(path):

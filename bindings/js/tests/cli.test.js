@@ -89,8 +89,8 @@ test("the status of check is the greatest of all files, in any order", () => {
 });
 
 test("--help and --version", () => {
-    assert.match(run("--help").stdout, /^usage: pulleynavy \[list\] FILE .*\n(.*\n)*.*standard input/);
-    assert.deepEqual([run("--help").status, run("--version").stdout], [0, `pulleynavy ${VERSION}\n`]);
+    assert.match(run("--help").stdout, /^usage: pulleynavy-js \[list\] FILE .*\n(.*\n)*.*standard input/);
+    assert.deepEqual([run("--help").status, run("--version").stdout], [0, `pulleynavy-js ${VERSION}\n`]);
 });
 
 test("a full device is status 3", { skip: !existsSync("/dev/full") }, () => {
@@ -98,7 +98,7 @@ test("a full device is status 3", { skip: !existsSync("/dev/full") }, () => {
     for (const command of ["list", "strip"]) {
         const done = spawnSync(process.execPath, [CLI, command, "-"], { input: latin(HEADER + "\0\x02\x01x"), stdio: ["pipe", full, "pipe"] });
         assert.equal(done.status, 3, command);
-        assert.match(done.stderr.toString(), /^pulleynavy: ENOSPC.*\n$/);
+        assert.match(done.stderr.toString(), /^pulleynavy-js: ENOSPC.*\n$/);
     }
     closeSync(full);
 });

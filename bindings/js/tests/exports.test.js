@@ -16,7 +16,7 @@ test("each file that package.json names is there, and is packed", () => {
         assert.ok(existsSync(new URL(path, PACKAGE)), path);
         assert.ok(path === "./package.json" || isPacked(path.slice(2)), path);
     }
-    assert.match(readFileSync(new URL(manifest.bin.pulleynavy, PACKAGE), "utf8"), /^#!\/usr\/bin\/env node\n/);
+    assert.match(readFileSync(new URL(manifest.bin["pulleynavy-js"], PACKAGE), "utf8"), /^#!\/usr\/bin\/env node\n/);
 });
 
 test("types are the first condition, and the last is the default", () => {

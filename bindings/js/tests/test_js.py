@@ -66,8 +66,8 @@ def packed(npm, node, place, folder):
     os.mkdir(empty)
     common.must([npm, "install", "--offline", "--no-audit", "--no-fund", "--loglevel=error", archive], folder=empty)
     common.write(os.path.join(empty, "a.wasm"), b"\0asm\1\0\0\0\3\2\1\0\x0a\4\1\2\0\x0b")
-    said = common.must([os.path.join("node_modules", ".bin", "pulleynavy"), "a.wasm"], folder=empty).split()
-    common.require(said == ["2", "0xa", "function", "(1)", "4", "0xe", "code", "(1)"], "pulleynavy a.wasm: %s" % said)
+    said = common.must([os.path.join("node_modules", ".bin", "pulleynavy-js"), "a.wasm"], folder=empty).split()
+    common.require(said == ["2", "0xa", "function", "(1)", "4", "0xe", "code", "(1)"], "pulleynavy-js a.wasm: %s" % said)
     use = "import { load } from 'pulleynavy'; import { readFileSync } from 'fs';"
     use += " const { parse } = await load(); console.log([...parse(readFileSync('a.wasm'))].map(one => one.kind).join());"
     said = common.must([node, "--input-type=module", "-e", use], folder=empty).strip()

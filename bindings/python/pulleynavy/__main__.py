@@ -1,4 +1,4 @@
-"""The program `pulleynavy`, which is also `python -m pulleynavy`: lists, checks and strips modules."""
+"""The program `pulleynavy-py`, which is also `python -m pulleynavy`: lists, checks and strips modules."""
 # SPDX-License-Identifier: Apache-2.0 OR MIT
 from __future__ import annotations
 
@@ -14,12 +14,14 @@ from .module import check_event
 
 NAMES = ["custom", "type", "import", "function", "table", "memory", "global", "export", "start", "element", "code", "data", "data count", "tag"]
 MALFORMED, WRONG_USE, FAILED = 1, 2, 3
+# Another name than that of the program of the proved sources, which has more commands.
+NAME = "pulleynavy-py"
 EPILOG = "FILE may be -, standard input. The exit status is 1 for a malformed module, 2 for wrong use, and 3 if a file, the library or wasm_dump fails."
 
 
 def arguments(words: list[str]) -> argparse.Namespace:
-    line = argparse.ArgumentParser(prog="pulleynavy", description="Reads WebAssembly binaries.", epilog=EPILOG)
-    line.add_argument("--version", action="version", version=f"pulleynavy {__version__}")
+    line = argparse.ArgumentParser(prog=NAME, description="Reads WebAssembly binaries.", epilog=EPILOG)
+    line.add_argument("--version", action="version", version=f"{NAME} {__version__}")
     commands = line.add_subparsers(dest="command", required=True, metavar="COMMAND")
     listed = commands.add_parser("list", help="prints the sections with their sizes in bytes")
     checked = commands.add_parser("check", help="reads all items and known custom sections, and prints a fault of each file")
@@ -49,7 +51,7 @@ def main(words: list[str] | None = None) -> int:
     except OSError as error:
         # A reader that has closed the pipe needs no message. Python flushes standard output once more at its end.
         if not isinstance(error, BrokenPipeError):
-            print(f"pulleynavy: {error.strerror or error}", file=sys.stderr)
+            print(f"{NAME}: {error.strerror or error}", file=sys.stderr)
         os.dup2(os.open(os.devnull, os.O_WRONLY), sys.stdout.fileno())
         return FAILED
 
@@ -109,7 +111,7 @@ def dump(words: list[str]) -> int:
     """Runs the program `wasm_dump` of this project in place of this one."""
     program = shutil.which("wasm_dump")
     if not program:
-        print("pulleynavy: there is no program wasm_dump on the path", file=sys.stderr)
+        print(f"{NAME}: there is no program wasm_dump on the path", file=sys.stderr)
         return FAILED
     os.execv(program, [program, *words])
 

@@ -693,7 +693,7 @@ class Program(unittest.TestCase):
             self.assertEqual(subprocess.run(words, stdout=subprocess.PIPE, check=True).stdout, FUNCTIONS)
             words[-1:] = ["--keep-names", file.name]
             self.assertEqual(subprocess.run(words, stdout=subprocess.PIPE, check=True).stdout, FUNCTIONS)
-        self.assertEqual(self.run_with("--version").stdout, f"pulleynavy {pulleynavy.__version__}\n")
+        self.assertEqual(self.run_with("--version").stdout, f"pulleynavy-py {pulleynavy.__version__}\n")
 
     def piped(self, stream: bytes, *arguments: str, **environment: str) -> subprocess.CompletedProcess[bytes]:
         """What the program writes of a stream that it reads from standard input."""
@@ -722,7 +722,7 @@ class Program(unittest.TestCase):
             with open("/dev/full", "wb") as full:
                 words = [sys.executable, "-m", "pulleynavy", command, "-"]
                 done = subprocess.run(words, input=FUNCTIONS, stdout=full, stderr=subprocess.PIPE)
-            self.assertEqual((done.returncode, done.stderr), (3, b"pulleynavy: No space left on device\n"))
+            self.assertEqual((done.returncode, done.stderr), (3, b"pulleynavy-py: No space left on device\n"))
 
     def test_check_reads_all_items_and_all_files(self) -> None:
         cases = {
@@ -765,7 +765,7 @@ class Program(unittest.TestCase):
         with tempfile.TemporaryDirectory() as folder:
             environment = {**os.environ, "PATH": folder}
             done = subprocess.run(words, capture_output=True, text=True, env=environment)
-            self.assertEqual((done.returncode, done.stderr), (3, "pulleynavy: there is no program wasm_dump on the path\n"))
+            self.assertEqual((done.returncode, done.stderr), (3, "pulleynavy-py: there is no program wasm_dump on the path\n"))
             program = pathlib.Path(folder, "wasm_dump")
             program.write_text('#!/bin/sh\nprintf "%s|" "$@"\nexit 5\n')
             program.chmod(0o755)
@@ -838,7 +838,7 @@ class Systems(unittest.TestCase):
             with self.subTest(system=system):
                 status, output, errors = self.run_on(system)
                 self.assertEqual((status, output, len(errors.splitlines())), (3, "", 1))
-                self.assertIn(f"pulleynavy: there is no {name} for {system} on ", errors)
+                self.assertIn(f"pulleynavy-py: there is no {name} for {system} on ", errors)
                 self.assertIn("set PULLEYNAVY_LIB", errors)
                 (self.package / name).write_bytes(b"MZ")
                 status, output, errors = self.run_on(system)

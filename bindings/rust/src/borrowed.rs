@@ -1,8 +1,10 @@
 //! Items whose lists borrow from the input, for builds without the feature `alloc`.
-use crate::codes::composite_kind;
+use crate::cores::begin_here;
 use crate::error::Result;
+use crate::proved::base::FromReader as _;
+use crate::proved::items;
 use crate::types::type_index;
-use crate::{ArrayType, BinaryReader, ContType, CoreDumpValue, FieldType, FromReader, List, PackedIndex, SectionLimited, ValType, library};
+use crate::{ArrayType, BinaryReader, ContType, CoreDumpValue, CoreStart, Fault, FieldType, FromReader, List, PackedIndex, SectionLimited, ValType};
 
 /// A list inside an item that borrows from the input anyway.
 pub(crate) type Items<'a, T> = List<'a, T>;
@@ -238,14 +240,15 @@ impl<'a> SubType<'a> {
 
 impl<'a> FromReader<'a> for SubType<'a> {
     fn from_reader(reader: &mut BinaryReader<'a>) -> Result<Self> {
-        let (_, head) = reader.item(library::subtype)?;
-        let inner = match head.kind {
-            composite_kind::FUNC => CompositeInnerType::Func(FuncType::read(reader, head.count)?),
-            composite_kind::ARRAY => CompositeInnerType::Array(reader.read()?),
-            _ => CompositeInnerType::Struct(StructType { fields: read_items(reader, head.count, FieldType::from_reader, FieldType::from_reader)? }),
+        let items::SubTypeHead { is_final, supertype, kind, count } = reader.by(items::SubTypeHead::from_reader)?;
+        let inner = match kind {
+            items::CompositeKind::Func => CompositeInnerType::Func(FuncType::read(reader, count)?),
+            items::CompositeKind::Array => CompositeInnerType::Array(reader.read()?),
+            items::CompositeKind::Struct => {
+                CompositeInnerType::Struct(StructType { fields: read_items(reader, count, FieldType::from_reader, FieldType::from_reader)? })
+            }
         };
-        let supertype_idx = (head.has_supertype != 0).then(|| type_index(head.supertype));
-        Ok(SubType { is_final: head.is_final != 0, supertype_idx, composite_type: CompositeType { inner, shared: false } })
+        Ok(SubType { is_final, supertype_idx: supertype.map(type_index), composite_type: CompositeType { inner, shared: false } })
     }
 }
 
@@ -289,8 +292,8 @@ impl<'a> RecGroup<'a> {
 
 impl<'a> FromReader<'a> for RecGroup<'a> {
     fn from_reader(reader: &mut BinaryReader<'a>) -> Result<Self> {
-        let (_, head) = reader.item(library::type_group)?;
-        Ok(RecGroup { explicit: head.is_explicit != 0, types: read_items(reader, head.count, SubType::from_reader, SubType::from_reader)? })
+        let items::RecGroupHead { explicit, count } = reader.by(items::RecGroupHead::from_reader)?;
+        Ok(RecGroup { explicit, types: read_items(reader, count, SubType::from_reader, SubType::from_reader)? })
     }
 }
 
@@ -322,7 +325,7 @@ impl<'a> CoreDumpInstancesSection<'a> {
     /// The errors of the count and of an instance, or `CustomTrailing` at the first byte after the last instance.
     pub fn new(mut reader: BinaryReader<'a>) -> Result<Self> {
         let instances = reader.read()?;
-        reader.expect_end(library::custom_end)?;
+        reader.expect_end(Fault::CustomTrailing)?;
         Ok(CoreDumpInstancesSection { instances })
     }
 }
@@ -350,8 +353,8 @@ pub struct CoreDumpInstance<'a> {
 
 impl<'a> FromReader<'a> for CoreDumpInstance<'a> {
     fn from_reader(reader: &mut BinaryReader<'a>) -> Result<Self> {
-        let (_, plain) = reader.item(library::core_instance)?;
-        Ok(CoreDumpInstance { module_index: plain.module_index, memories: reader.read()?, globals: reader.read()? })
+        begin_here(reader, CoreStart::Instance)?;
+        Ok(CoreDumpInstance { module_index: reader.read()?, memories: reader.read()?, globals: reader.read()? })
     }
 }
 
@@ -382,8 +385,8 @@ pub struct CoreDumpStackFrame<'a> {
 
 impl<'a> FromReader<'a> for CoreDumpStackFrame<'a> {
     fn from_reader(reader: &mut BinaryReader<'a>) -> Result<Self> {
-        let (_, plain) = reader.item(library::core_frame)?;
-        let (instanceidx, funcidx, codeoffset) = (plain.instance, plain.func, plain.code_offset);
+        begin_here(reader, CoreStart::Frame)?;
+        let (instanceidx, funcidx, codeoffset) = (reader.read()?, reader.read()?, reader.read()?);
         Ok(CoreDumpStackFrame { instanceidx, funcidx, codeoffset, locals: reader.read()?, stack: reader.read()? })
     }
 }

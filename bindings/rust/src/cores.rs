@@ -1,7 +1,22 @@
 //! Core dumps.
-use crate::codes::core_value_kind;
 use crate::composites::{Frame, Items, read_items, read_list};
-use crate::{BinaryReader, FromReader, Ieee32, Ieee64, Result, library};
+use crate::proved::base::FromReader as _;
+use crate::proved::custom;
+use crate::{BinaryReader, CoreStart, Error, Fault, FromReader, Ieee32, Ieee64, Result};
+
+/// Reads the byte 0 that begins a part. Another one is a fault at this offset.
+fn begin(reader: &mut BinaryReader<'_>, part: CoreStart, offset: u64) -> Result<()> {
+    match reader.read_u8()? {
+        0 => Ok(()),
+        _ => Err(Error::new(Fault::CoreStartByte(part), offset)),
+    }
+}
+
+/// Reads the byte 0 that begins a part. Another one is a fault.
+pub(crate) fn begin_here(reader: &mut BinaryReader<'_>, part: CoreStart) -> Result<()> {
+    let offset = reader.original_position();
+    begin(reader, part, offset)
+}
 
 /// The section `core`: the process of a core dump.
 ///
@@ -27,9 +42,8 @@ impl<'a> CoreDumpSection<'a> {
     ///
     /// `CoreStartByte` at a first byte other than 0, an error of the name, or `CustomTrailing` at the first byte after it.
     pub fn new(mut reader: BinaryReader<'a>) -> Result<Self> {
-        let (window, plain) = reader.item(library::core_process)?;
-        reader.expect_end(library::custom_end)?;
-        Ok(CoreDumpSection { name: window.text(plain.name) })
+        let custom::CoreDumpSection { name } = reader.by(|reader| custom::CoreDumpSection::new(reader.clone()))?;
+        Ok(CoreDumpSection { name })
     }
 }
 
@@ -62,15 +76,15 @@ impl<'a> CoreDumpModulesSection<'a> {
         let count = reader.read_var_u32()?;
         // Only a list that borrows reads its items again. They have no fault then, so the offset is not used.
         let modules = read_items(&mut reader, count, |reader| module(reader, data_offset), |reader| module(reader, 0))?;
-        reader.expect_end(library::custom_end)?;
+        reader.expect_end(Fault::CustomTrailing)?;
         Ok(CoreDumpModulesSection { modules })
     }
 }
 
 /// The name of a module of the section whose data begins at this offset.
 fn module<'a>(reader: &mut BinaryReader<'a>, data_offset: u64) -> Result<&'a str> {
-    let (window, plain) = reader.item(|window| library::core_module(window, data_offset))?;
-    Ok(window.text(plain.name))
+    begin(reader, CoreStart::Module, data_offset)?;
+    reader.read_unlimited_string()
 }
 
 /// The section `corestack`: a thread of a core dump, with its frames.
@@ -105,10 +119,11 @@ impl<'a> CoreDumpStackSection<'a> {
     /// `CoreStartByte` at a first byte other than 0, an error of the name, the count or a frame, or `CustomTrailing` at the first
     /// byte after the last frame.
     pub fn new(mut reader: BinaryReader<'a>) -> Result<Self> {
-        let (window, plain) = reader.item(library::core_thread)?;
+        begin_here(&mut reader, CoreStart::StackName)?;
+        let name = reader.read_unlimited_string()?;
         let frames = read_list(&mut reader, Frame::from_reader)?;
-        reader.expect_end(library::custom_end)?;
-        Ok(CoreDumpStackSection { name: window.text(plain.name), frames })
+        reader.expect_end(Fault::CustomTrailing)?;
+        Ok(CoreDumpStackSection { name, frames })
     }
 }
 
@@ -139,13 +154,12 @@ pub enum CoreDumpValue {
 
 impl<'a> FromReader<'a> for CoreDumpValue {
     fn from_reader(reader: &mut BinaryReader<'a>) -> Result<Self> {
-        let (_, plain) = reader.item(library::core_value)?;
-        Ok(match plain.kind {
-            core_value_kind::I32 => CoreDumpValue::I32(plain.integer as i32),
-            core_value_kind::I64 => CoreDumpValue::I64(plain.integer),
-            core_value_kind::F32 => CoreDumpValue::F32(Ieee32(plain.bits as u32)),
-            core_value_kind::F64 => CoreDumpValue::F64(Ieee64(plain.bits)),
-            _ => CoreDumpValue::Missing,
+        Ok(match reader.by(custom::CoreDumpValue::from_reader)? {
+            custom::CoreDumpValue::Missing => CoreDumpValue::Missing,
+            custom::CoreDumpValue::I32(value) => CoreDumpValue::I32(value),
+            custom::CoreDumpValue::I64(value) => CoreDumpValue::I64(value),
+            custom::CoreDumpValue::F32(value) => CoreDumpValue::F32(Ieee32(value.bits())),
+            custom::CoreDumpValue::F64(value) => CoreDumpValue::F64(Ieee64(value.bits())),
         })
     }
 }

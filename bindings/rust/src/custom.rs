@@ -1,7 +1,8 @@
 //! Custom sections and subsections.
-use crate::library::{self, Item, Span};
+use crate::proved::base;
+use crate::proved::frames::Frame;
 use crate::section::Window;
-use crate::{BinaryReader, Error, Fault, Result};
+use crate::{BinaryReader, Error, Result};
 use core::fmt;
 use core::marker::PhantomData;
 use core::ops::Range;
@@ -23,7 +24,7 @@ use core::ops::Range;
 /// ```
 #[derive(Clone, Copy)]
 pub struct CustomSectionReader<'a> {
-    whole: Window<'a>,
+    start: u64,
     name: &'a str,
     data: Window<'a>,
 }
@@ -42,15 +43,15 @@ impl<'a> CustomSectionReader<'a> {
     ///
     /// Those of [`BinaryReader::read_string`] for the name.
     pub fn new(mut reader: BinaryReader<'a>) -> Result<Self> {
-        let whole = reader.rest;
-        Ok(CustomSectionReader { whole, name: reader.read_string()?, data: reader.rest })
+        let start = reader.original_position();
+        Ok(CustomSectionReader { start, name: reader.read_string()?, data: reader.rest })
     }
 
-    /// The section in a window, by the offset of its data and the size of the name before it.
-    pub(crate) fn of(whole: Window<'a>, data_offset: u64, name_size: usize) -> Self {
-        let data = whole.from(data_offset);
-        let name = whole.text(Span { at: whole.bytes.len() - data.bytes.len() - name_size, size: name_size });
-        CustomSectionReader { whole, name, data }
+    /// The section of a frame, whose name was read.
+    #[inline(always)]
+    pub(crate) fn of(frame: Frame<'a>) -> Self {
+        let (start, name) = (frame.range().start, frame.name());
+        CustomSectionReader { start, name, data: Window::of(&frame.into_reader()) }
     }
 
     /// Returns the name of the section.
@@ -86,7 +87,7 @@ impl<'a> CustomSectionReader<'a> {
     /// Returns the offsets of the content, including the name, in bytes from the start of the stream.
     #[must_use]
     pub fn range(&self) -> Range<u64> {
-        self.whole.range()
+        self.start..self.data.range().end
     }
 }
 
@@ -182,11 +183,13 @@ impl<'a, T> Subsections<'a, T> {
 
     /// The id and the bytes of the next one.
     fn read(&mut self) -> Result<(u8, BinaryReader<'a>)> {
-        let window = self.rest;
-        let plain = library::subsection(&window);
-        Error::check(plain.fault()).inspect_err(|error| self.rest = window.from(end_of_malformed(error)))?;
-        self.rest = window.after(plain.consumed());
-        Ok((plain.id as u8, BinaryReader::of(window.part(plain.contents))))
+        let mut reader = self.rest.reader();
+        let read = base::read_subsection(&mut reader);
+        self.rest = Window::of(&reader);
+        match read {
+            Ok((id, contents)) => Ok((id, BinaryReader::of(Window::of(&contents)))),
+            Err(error) => Err(Error::of(error)),
+        }
     }
 }
 
@@ -199,10 +202,4 @@ impl<'a, T: Subsection<'a>> Iterator for Subsections<'a, T> {
         }
         Some(self.read().and_then(|(id, reader)| T::from_reader(id, reader)))
     }
-}
-
-/// The offset after a malformed id or size.
-fn end_of_malformed(error: &Error) -> u64 {
-    // The error is at the last byte that was read, or where bytes are missing.
-    if error.fault() == Fault::UnexpectedEof { error.offset() } else { error.offset() + 1 }
 }

@@ -1,6 +1,6 @@
 //! New custom sections, and edits of the custom sections of a stream.
-use crate::codes::{edit_kind, edit_status};
-use crate::{Error, Fault, Result, library};
+use crate::proved::edits;
+use crate::{Error, Fault, Result};
 
 /// A custom section to write: its name and its data.
 ///
@@ -15,6 +15,7 @@ pub struct NewSection<'a> {
 
 /// An edit of the custom sections of a stream.
 #[derive(Clone, Copy, Debug, PartialEq, Eq, Hash)]
+#[non_exhaustive]
 pub enum Edit<'a> {
     /// Appends a section.
     Append(NewSection<'a>),
@@ -26,15 +27,10 @@ pub enum Edit<'a> {
     Keep(&'a str),
 }
 
-impl<'a> Edit<'a> {
-    /// The number of the kind in the library, and the section that it takes.
-    fn parts(self) -> (u32, NewSection<'a>) {
-        match self {
-            Edit::Append(section) => (edit_kind::APPEND, section),
-            Edit::Replace(section) => (edit_kind::REPLACE, section),
-            Edit::Remove(name) => (edit_kind::REMOVE, NewSection { name, data: &[] }),
-            Edit::Keep(name) => (edit_kind::KEEP, NewSection { name, data: &[] }),
-        }
+impl<'a> NewSection<'a> {
+    /// The section for the proved sources.
+    fn proved(self) -> edits::NewSection<'a> {
+        edits::NewSection { name: self.name, data: self.data }
     }
 }
 
@@ -53,10 +49,15 @@ fn too_large() -> Error {
 ///
 /// (Core specification, Binary format, Modules, Custom Section.)
 pub fn encode_to(section: NewSection<'_>, out: &mut [u8]) -> Result<usize> {
-    match library::encode_custom(section.name, section.data, out) {
-        0 => Err(too_large()),
-        size => Ok(size),
+    let section = section.proved();
+    if !section.fits() {
+        return Err(too_large());
     }
+    let size = section.size();
+    if size <= out.len() {
+        section.write_at(out, 0);
+    }
+    Ok(size)
 }
 
 /// Writes a complete stream after an edit to the front of `out` if it has room for all of it, and returns the size of the edited stream.
@@ -78,13 +79,20 @@ pub fn encode_to(section: NewSection<'_>, out: &mut [u8]) -> Result<usize> {
 /// # Ok::<(), pulleynavy::Error>(())
 /// ```
 pub fn edit_to(bytes: &[u8], edit: Edit<'_>, out: &mut [u8]) -> Result<usize> {
-    let (kind, section) = edit.parts();
-    let edited = library::edit(bytes, kind, section.name, section.data, out);
-    match edited.status {
-        edit_status::DONE | edit_status::NO_ROOM => Ok(edited.size),
-        edit_status::MALFORMED => Err(Error::reported(edited.fault)),
-        _ => Err(too_large()),
+    let kept: &[&str] = match &edit {
+        Edit::Keep(name) => core::slice::from_ref(name),
+        _ => &[],
+    };
+    let edit = match edit {
+        Edit::Append(section) => edits::Edit::Append(section.proved()),
+        Edit::Replace(section) => edits::Edit::Replace(section.proved()),
+        Edit::Remove(name) => edits::Edit::Remove(name),
+        Edit::Keep(_) => edits::Edit::Keep(edits::Keep { names: false, kept, removed: &[] }),
+    };
+    if !edit.fits() {
+        return Err(too_large());
     }
+    edits::edit_to(bytes, &[edit], out).map_err(Error::of)
 }
 
 #[cfg(feature = "alloc")]

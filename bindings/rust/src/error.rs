@@ -1,5 +1,6 @@
 //! Errors.
-use crate::{Fault, Lead, library};
+use crate::proved::base;
+use crate::{Fault, Lead};
 use core::fmt;
 use core::num::NonZeroUsize;
 
@@ -44,17 +45,13 @@ impl Error {
         Error { number, has_number: true, ..self }
     }
 
-    /// Returns the error of a fault, unless the library reports none.
-    #[inline]
-    pub(crate) fn check(fault: library::Fault) -> Result<()> {
-        if fault.kind == 0 { Ok(()) } else { Err(Error::reported(fault)) }
-    }
-
-    /// The error of a fault that the library reports.
+    /// The error of the proved sources.
     #[cold]
-    pub(crate) fn reported(fault: library::Fault) -> Self {
-        let error = Error::new(Fault::of(fault.kind).expect("every kind of fault has a variant"), fault.offset);
-        if fault.has_number == 0 { error } else { error.with_number(fault.number) }
+    #[inline(never)]
+    pub(crate) fn of(error: base::Error) -> Self {
+        let same = Error::new(Fault::of(error.fault()), error.offset());
+        let same = error.number().map_or(same, |number| same.with_number(number));
+        error.needed_hint().map_or(same, |hint| same.with_hint(hint))
     }
 
     /// A byte at this offset begins nothing of this sort.

@@ -1,5 +1,6 @@
 //! Why input is refused.
 use crate::codes::{core_start, fault_kind, lead, number_kind};
+use crate::proved::base;
 
 /// Declares an enum whose variants have a number in the C library.
 macro_rules! numbered {
@@ -11,12 +12,15 @@ macro_rules! numbered {
         }
 
         impl $name {
-            /// The variant with this number.
-            fn of(number: u32) -> Option<Self> {
-                Some(match number {
-                    $($module::$code => $name::$variant,)*
-                    _ => return None,
-                })
+            /// All variants of the proved sources.
+            #[cfg(test)]
+            const ALL: &[base::$name] = &[$(base::$name::$variant,)*];
+
+            /// The variant of the proved sources.
+            const fn of(variant: base::$name) -> Self {
+                match variant {
+                    $(base::$name::$variant => $name::$variant,)*
+                }
             }
 
             /// Its number in the C library.
@@ -47,6 +51,7 @@ numbered! {
 
 numbered! {
     /// What a `LeadingByte` fault expected at its offset.
+    #[non_exhaustive]
     Lead {
         /// A branch hint.
         lead::BRANCH_HINT BranchHint,
@@ -106,6 +111,7 @@ macro_rules! faults {
         /// assert_eq!(error.offset(), 4);
         /// ```
         #[derive(Clone, Copy, Debug, PartialEq, Eq, Hash)]
+        #[non_exhaustive]
         pub enum Fault {
             $($(#[$doc])* $variant,)*
             /// A LEB128 number is too long: its last possible byte has the top bit set. The offset is that of this byte.
@@ -121,16 +127,19 @@ macro_rules! faults {
         }
 
         impl Fault {
-            /// The fault with this number in the lowest 8 bits, and above them what it names.
-            pub(crate) fn of(code: u32) -> Option<Self> {
-                Some(match (code & 0xff, code >> 8) {
-                    $((fault_kind::$code, 0) => Fault::$variant,)*
-                    (fault_kind::NUMBER_TOO_LONG, kind) => Fault::NumberTooLong(NumberKind::of(kind)?),
-                    (fault_kind::NUMBER_TOO_LARGE, kind) => Fault::NumberTooLarge(NumberKind::of(kind)?),
-                    (fault_kind::LEADING_BYTE, lead) => Fault::LeadingByte(Lead::of(lead)?),
-                    (fault_kind::CORE_START_BYTE, start) => Fault::CoreStartByte(CoreStart::of(start)?),
-                    _ => return None,
-                })
+            /// The faults of the proved sources that have a text alone.
+            #[cfg(test)]
+            const ALONE: &[base::Fault] = &[$(base::Fault::$variant,)*];
+
+            /// The fault of the proved sources.
+            pub(crate) const fn of(fault: base::Fault) -> Self {
+                match fault {
+                    $(base::Fault::$variant => Fault::$variant,)*
+                    base::Fault::NumberTooLong(kind) => Fault::NumberTooLong(NumberKind::of(kind)),
+                    base::Fault::NumberTooLarge(kind) => Fault::NumberTooLarge(NumberKind::of(kind)),
+                    base::Fault::LeadingByte(lead) => Fault::LeadingByte(Lead::of(lead)),
+                    base::Fault::CoreStartByte(start) => Fault::CoreStartByte(CoreStart::of(start)),
+                }
             }
 
             /// Returns the number of the fault in the C library: its kind in the lowest 8 bits, and its detail above them.
@@ -299,24 +308,23 @@ const fn core_start_byte(start: CoreStart) -> &'static str {
 
 #[cfg(test)]
 mod tests {
-    use super::Fault;
-    use crate::library;
+    use super::{CoreStart, Fault, Lead, NumberKind, base};
+    extern crate std;
+    use std::collections::BTreeSet;
 
-    /// Every number of a fault in the library is that of a variant with the same text, and no other number is.
+    /// The text of each fault is that of the proved sources, and no other has its number.
     #[test]
-    fn texts_are_those_of_the_library() {
-        let mut found = 0;
-        for code in (0..0x1_0000).chain(0xffff_ff00..=u32::MAX) {
-            let mut text = [0; 200];
-            let size = library::format_message(code, &mut text);
-            let Some(fault) = Fault::of(code) else {
-                assert_eq!(size, 0, "the library has a text for {code}");
-                continue;
-            };
-            assert_eq!((fault.code(), fault.message().as_bytes()), (code, &text[..size]));
-            found += 1;
+    fn texts_are_those_of_the_proved_sources() {
+        let kinds = NumberKind::ALL.iter().flat_map(|kind| [base::Fault::NumberTooLong(*kind), base::Fault::NumberTooLarge(*kind)]);
+        let leads = Lead::ALL.iter().map(|lead| base::Fault::LeadingByte(*lead));
+        let starts = CoreStart::ALL.iter().map(|start| base::Fault::CoreStartByte(*start));
+        let mut numbers = BTreeSet::new();
+        for fault in Fault::ALONE.iter().copied().chain(kinds).chain(leads).chain(starts) {
+            let ours = Fault::of(fault);
+            assert_eq!(ours.message(), fault.message());
+            assert!(numbers.insert(ours.code()), "{ours:?} has the number of another fault");
         }
         // 44 faults without a part, and 5, 5, 11 and 5 with one.
-        assert_eq!(found, 44 + 26);
+        assert_eq!(numbers.len(), 44 + 26);
     }
 }

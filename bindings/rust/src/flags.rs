@@ -1,5 +1,4 @@
 //! Sets of flags.
-use crate::codes::{segment_flags, symbol_flags};
 use crate::{BinaryReader, FromReader, Result};
 use core::fmt;
 use core::ops::{BitAnd, BitAndAssign, BitOr, BitOrAssign, BitXor, BitXorAssign, Not, Sub, SubAssign};
@@ -329,23 +328,23 @@ flags! {
     #[derive(Default, PartialOrd, Ord)]
     SymbolFlags: u32 {
         /// The symbol is weak: another definition may replace it.
-        BINDING_WEAK = symbol_flags::BINDING_WEAK;
+        BINDING_WEAK = 1;
         /// The symbol is local: it is visible only in its own module.
-        BINDING_LOCAL = symbol_flags::BINDING_LOCAL;
+        BINDING_LOCAL = 1 << 1;
         /// The symbol is hidden: it is not visible outside the linked module.
-        VISIBILITY_HIDDEN = symbol_flags::VISIBILITY_HIDDEN;
+        VISIBILITY_HIDDEN = 1 << 2;
         /// The symbol is not defined in this module.
-        UNDEFINED = symbol_flags::UNDEFINED;
+        UNDEFINED = 1 << 4;
         /// The symbol is exported from the linked module.
-        EXPORTED = symbol_flags::EXPORTED;
+        EXPORTED = 1 << 5;
         /// The symbol has a name of its own, although it is imported.
-        EXPLICIT_NAME = symbol_flags::EXPLICIT_NAME;
+        EXPLICIT_NAME = 1 << 6;
         /// The symbol is kept even if it is unused.
-        NO_STRIP = symbol_flags::NO_STRIP;
+        NO_STRIP = 1 << 7;
         /// The symbol is thread-local.
-        TLS = symbol_flags::TLS;
+        TLS = 1 << 8;
         /// The symbol is an absolute address, in no segment.
-        ABSOLUTE = symbol_flags::ABSOLUTE;
+        ABSOLUTE = 1 << 9;
     }
 }
 
@@ -354,9 +353,9 @@ flags! {
     #[derive(Default)]
     SegmentFlags: u32 {
         /// The segment contains null-terminated strings, which may be merged.
-        STRINGS = segment_flags::STRINGS;
+        STRINGS = 1;
         /// The segment is thread-local.
-        TLS = segment_flags::TLS;
+        TLS = 1 << 1;
     }
 }
 

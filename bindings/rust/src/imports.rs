@@ -1,7 +1,7 @@
 //! Imports.
-use crate::codes::{external_kind, import_kind};
-use crate::kinds::{exception_tag, global_type, memory_type, table_type};
-use crate::library;
+use crate::kinds::exception_tag;
+use crate::proved::base::FromReader as _;
+use crate::proved::items;
 use crate::section::{SectionLimitedIntoIter, SectionLimitedIntoIterWithOffsets};
 use crate::{BinaryReader, ExternalKind, FromReader, GlobalType, MemoryType, Result, SectionLimited, TableType, TagType};
 
@@ -110,14 +110,18 @@ pub enum Imports<'a> {
     },
 }
 
-fn type_ref(ty: &library::ImportType) -> TypeRef {
-    match ty.kind {
-        external_kind::FUNC => TypeRef::Func(ty.index),
-        external_kind::TABLE => TypeRef::Table(table_type(ty.table)),
-        external_kind::MEMORY => TypeRef::Memory(memory_type(ty.memory)),
-        external_kind::GLOBAL => TypeRef::Global(global_type(ty.global)),
-        external_kind::TAG => TypeRef::Tag(exception_tag(ty.index)),
-        _ => TypeRef::FuncExact(ty.index),
+impl TypeRef {
+    /// The type that the proved sources have.
+    #[inline(always)]
+    fn of(ty: items::TypeRef) -> Self {
+        match ty {
+            items::TypeRef::Func(index) => TypeRef::Func(index),
+            items::TypeRef::Table(ty) => TypeRef::Table(TableType::of(ty)),
+            items::TypeRef::Memory(ty) => TypeRef::Memory(MemoryType::of(ty)),
+            items::TypeRef::Global(ty) => TypeRef::Global(GlobalType::of(ty)),
+            items::TypeRef::Tag(ty) => TypeRef::Tag(exception_tag(ty.func_type_idx)),
+            items::TypeRef::FuncExact(index) => TypeRef::FuncExact(index),
+        }
     }
 }
 
@@ -143,21 +147,22 @@ impl<'a> FromReader<'a> for Import<'a> {
 
 impl<'a> FromReader<'a> for Imports<'a> {
     fn from_reader(reader: &mut BinaryReader<'a>) -> Result<Self> {
-        let (window, plain) = reader.item(library::import)?;
-        let (module, ty) = (window.text(plain.module_name), type_ref(&plain.ty));
-        let group = match plain.kind {
-            import_kind::SINGLE => Imports::Single(window.offset, Import { module, name: window.text(plain.name), ty }),
-            import_kind::BUNDLE => Imports::Compact1 { module, items: SectionLimited::list(window, plain.items, plain.count) },
-            _ => Imports::Compact2 { module, ty, names: SectionLimited::list(window, plain.items, plain.count) },
-        };
-        Ok(group)
+        let bytes = reader.rest;
+        Ok(match reader.by(items::Imports::from_reader)? {
+            items::Imports::Single(offset, import) => {
+                let items::Import { module, name, ty } = import;
+                Imports::Single(offset, Import { module, name, ty: TypeRef::of(ty) })
+            }
+            items::Imports::Compact1 { module, items } => Imports::Compact1 { module, items: SectionLimited::inside(bytes, &items) },
+            items::Imports::Compact2 { module, ty, names } => Imports::Compact2 { module, ty: TypeRef::of(ty), names: SectionLimited::inside(bytes, &names) },
+        })
     }
 }
 
 impl<'a> FromReader<'a> for ImportItemCompact<'a> {
     fn from_reader(reader: &mut BinaryReader<'a>) -> Result<Self> {
-        let (window, plain) = reader.item(library::import_item)?;
-        Ok(ImportItemCompact { name: window.text(plain.name), ty: type_ref(&plain.ty) })
+        let items::ImportItemCompact { name, ty } = reader.by(items::ImportItemCompact::from_reader)?;
+        Ok(ImportItemCompact { name, ty: TypeRef::of(ty) })
     }
 }
 
@@ -248,6 +253,8 @@ impl<'a> Iterator for IntoImportsWithOffsets<'a> {
                 return Some(import);
             }
             match self.groups.next()? {
+                // Almost every group is one import.
+                Ok(Imports::Single(offset, import)) => return Some(Ok((offset, import))),
                 Ok(group) => self.group = group.into_iter(),
                 Err(error) => return Some(Err(error)),
             }

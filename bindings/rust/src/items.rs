@@ -1,10 +1,8 @@
 //! Tables, globals, exports and segments.
-use crate::codes::{data_kind, element_kind, external_kind};
-use crate::kinds::{global_type, table_type};
-use crate::library::Span;
+use crate::proved::base::FromReader as _;
+use crate::proved::items;
 use crate::section::Window;
-use crate::types::ref_type;
-use crate::{BinaryReader, FromReader, GlobalType, Lead, OperatorsReader, RefType, Result, SectionLimited, TableType, library};
+use crate::{BinaryReader, FromReader, GlobalType, OperatorsReader, RefType, Result, SectionLimited, TableType};
 use core::ops::Range;
 
 /// A constant expression: its instructions, including the final `end`.
@@ -26,6 +24,12 @@ pub struct ConstExpr<'a> {
 }
 
 impl<'a> ConstExpr<'a> {
+    /// The expression that the proved sources have.
+    #[inline(always)]
+    pub(crate) fn of(expression: &items::ConstExpr<'a>) -> Self {
+        ConstExpr { window: Window::of(&expression.get_binary_reader()) }
+    }
+
     /// Takes the remaining bytes of a reader as an expression, without reading or checking them.
     #[must_use]
     pub fn new(reader: BinaryReader<'a>) -> Self {
@@ -59,8 +63,7 @@ impl<'a> ConstExpr<'a> {
 
 impl<'a> FromReader<'a> for ConstExpr<'a> {
     fn from_reader(reader: &mut BinaryReader<'a>) -> Result<Self> {
-        let (window, plain) = reader.item(library::expression)?;
-        Ok(ConstExpr { window: window.part(Span { at: 0, size: plain.consumed }) })
+        reader.by(items::ConstExpr::from_reader).map(|expression| ConstExpr::of(&expression))
     }
 }
 
@@ -109,9 +112,12 @@ pub enum TableInit<'a> {
 
 impl<'a> FromReader<'a> for Table<'a> {
     fn from_reader(reader: &mut BinaryReader<'a>) -> Result<Self> {
-        let (window, plain) = reader.item(library::table)?;
-        let init = if plain.has_init == 0 { TableInit::RefNull } else { TableInit::Expr(ConstExpr { window: window.part(plain.init) }) };
-        Ok(Table { ty: table_type(plain.ty), init })
+        let items::Table { ty, init } = reader.by(items::Table::from_reader)?;
+        let init = match init {
+            items::TableInit::RefNull => TableInit::RefNull,
+            items::TableInit::Expr(expression) => TableInit::Expr(ConstExpr::of(&expression)),
+        };
+        Ok(Table { ty: TableType::of(ty), init })
     }
 }
 
@@ -138,8 +144,8 @@ pub struct Global<'a> {
 
 impl<'a> FromReader<'a> for Global<'a> {
     fn from_reader(reader: &mut BinaryReader<'a>) -> Result<Self> {
-        let (window, plain) = reader.item(library::global)?;
-        Ok(Global { ty: global_type(plain.ty), init_expr: ConstExpr { window: window.part(plain.init) } })
+        let items::Global { ty, init_expr } = reader.by(items::Global::from_reader)?;
+        Ok(Global { ty: GlobalType::of(ty), init_expr: ConstExpr::of(&init_expr) })
     }
 }
 
@@ -171,24 +177,22 @@ pub enum ExternalKind {
 
 impl<'a> FromReader<'a> for ExternalKind {
     fn from_reader(reader: &mut BinaryReader<'a>) -> Result<Self> {
-        reader.read_kind(Lead::External, |byte| match byte {
-            0x20 => Some(ExternalKind::FuncExact),
-            byte => ExternalKind::of(byte.into()),
-        })
+        reader.by(items::ExternalKind::from_reader).map(ExternalKind::of)
     }
 }
 
 impl ExternalKind {
-    /// The kind with this number, except that of an exact function.
-    fn of(number: u32) -> Option<Self> {
-        Some(match number {
-            external_kind::FUNC => ExternalKind::Func,
-            external_kind::TABLE => ExternalKind::Table,
-            external_kind::MEMORY => ExternalKind::Memory,
-            external_kind::GLOBAL => ExternalKind::Global,
-            external_kind::TAG => ExternalKind::Tag,
-            _ => return None,
-        })
+    /// The kind that the proved sources have.
+    #[inline(always)]
+    fn of(kind: items::ExternalKind) -> Self {
+        match kind {
+            items::ExternalKind::Func => ExternalKind::Func,
+            items::ExternalKind::Table => ExternalKind::Table,
+            items::ExternalKind::Memory => ExternalKind::Memory,
+            items::ExternalKind::Global => ExternalKind::Global,
+            items::ExternalKind::Tag => ExternalKind::Tag,
+            items::ExternalKind::FuncExact => ExternalKind::FuncExact,
+        }
     }
 }
 
@@ -215,9 +219,8 @@ pub struct Export<'a> {
 
 impl<'a> FromReader<'a> for Export<'a> {
     fn from_reader(reader: &mut BinaryReader<'a>) -> Result<Self> {
-        let (window, plain) = reader.item(library::export)?;
-        let kind = ExternalKind::of(plain.kind).unwrap_or(ExternalKind::FuncExact);
-        Ok(Export { name: window.text(plain.name), kind, index: plain.index })
+        let items::Export { name, kind, index } = reader.by(items::Export::from_reader)?;
+        Ok(Export { name, kind: ExternalKind::of(kind), index })
     }
 }
 
@@ -296,21 +299,18 @@ pub enum ElementItems<'a> {
 
 impl<'a> FromReader<'a> for Element<'a> {
     fn from_reader(reader: &mut BinaryReader<'a>) -> Result<Self> {
-        let (window, plain) = reader.item(library::element)?;
-        let kind = match plain.kind {
-            element_kind::PASSIVE => ElementKind::Passive,
-            element_kind::ACTIVE => ElementKind::Active {
-                table_index: (plain.has_table != 0).then_some(plain.table),
-                offset_expr: ConstExpr { window: window.part(plain.offset_expression) },
-            },
-            _ => ElementKind::Declared,
+        let bytes = reader.rest;
+        let items::Element { kind, items, range } = reader.by(items::Element::from_reader)?;
+        let kind = match kind {
+            items::ElementKind::Passive => ElementKind::Passive,
+            items::ElementKind::Active { table_index, offset_expr } => ElementKind::Active { table_index, offset_expr: ConstExpr::of(&offset_expr) },
+            items::ElementKind::Declared => ElementKind::Declared,
         };
-        let items = if plain.has_expressions == 0 {
-            ElementItems::Functions(SectionLimited::list(window, plain.items, plain.count))
-        } else {
-            ElementItems::Expressions(ref_type(plain.ty), SectionLimited::list(window, plain.items, plain.count))
+        let items = match items {
+            items::ElementItems::Functions(functions) => ElementItems::Functions(SectionLimited::inside(bytes, &functions)),
+            items::ElementItems::Expressions(ty, expressions) => ElementItems::Expressions(RefType::of(ty), SectionLimited::inside(bytes, &expressions)),
         };
-        Ok(Element { kind, items, range: window.offset..reader.original_position() })
+        Ok(Element { kind, items, range })
     }
 }
 
@@ -363,12 +363,11 @@ pub enum DataKind<'a> {
 
 impl<'a> FromReader<'a> for Data<'a> {
     fn from_reader(reader: &mut BinaryReader<'a>) -> Result<Self> {
-        let (window, plain) = reader.item(library::data)?;
-        let kind = match plain.kind {
-            data_kind::PASSIVE => DataKind::Passive,
-            _ => DataKind::Active { memory_index: plain.memory, offset_expr: ConstExpr { window: window.part(plain.offset_expression) } },
+        let items::Data { kind, bytes, range } = reader.by(items::Data::from_reader)?;
+        let kind = match kind {
+            items::DataKind::Passive => DataKind::Passive,
+            items::DataKind::Active { memory_index, offset_expr } => DataKind::Active { memory_index, offset_expr: ConstExpr::of(&offset_expr) },
         };
-        let range = window.offset..reader.original_position();
-        Ok(Data { kind, data: window.part(plain.bytes).bytes, range })
+        Ok(Data { kind, data: bytes, range })
     }
 }

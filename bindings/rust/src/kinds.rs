@@ -1,6 +1,7 @@
 //! Types of tables, memories, globals and tags.
-use crate::types::{ref_type, val_type};
-use crate::{BinaryReader, FromReader, RefType, Result, ValType, library};
+use crate::proved::base::FromReader as _;
+use crate::proved::items;
+use crate::{BinaryReader, FromReader, RefType, Result, ValType};
 
 /// The type of a table.
 ///
@@ -129,49 +130,51 @@ pub(crate) fn exception_tag(func_type_idx: u32) -> TagType {
     TagType { kind: TagKind::Exception, func_type_idx }
 }
 
-pub(crate) fn table_type(ty: library::TableType) -> TableType {
-    let maximum = (ty.has_maximum != 0).then_some(ty.maximum);
-    TableType { element_type: ref_type(ty.element), table64: ty.table64 != 0, initial: ty.initial, maximum, shared: ty.shared != 0 }
-}
-
-pub(crate) fn memory_type(ty: library::MemoryType) -> MemoryType {
-    MemoryType {
-        memory64: ty.memory64 != 0,
-        shared: ty.shared != 0,
-        initial: ty.initial,
-        maximum: (ty.has_maximum != 0).then_some(ty.maximum),
-        page_size_log2: (ty.has_page_size != 0).then_some(ty.page_size_log2),
+impl TableType {
+    /// The type that the proved sources have.
+    pub(crate) fn of(ty: items::TableType) -> Self {
+        let items::TableType { element_type, table64, initial, maximum, shared } = ty;
+        TableType { element_type: RefType::of(element_type), table64, initial, maximum, shared }
     }
 }
 
-pub(crate) fn global_type(ty: library::GlobalType) -> GlobalType {
-    GlobalType { content_type: val_type(ty.content), mutable: ty.is_mutable != 0, shared: ty.shared != 0 }
+impl MemoryType {
+    /// The type that the proved sources have.
+    pub(crate) fn of(ty: items::MemoryType) -> Self {
+        let items::MemoryType { memory64, shared, initial, maximum, page_size_log2 } = ty;
+        MemoryType { memory64, shared, initial, maximum, page_size_log2 }
+    }
+}
+
+impl GlobalType {
+    /// The type that the proved sources have.
+    #[inline(always)]
+    pub(crate) fn of(ty: items::GlobalType) -> Self {
+        GlobalType { content_type: ValType::of(ty.content_type), mutable: ty.mutable, shared: ty.shared }
+    }
 }
 
 impl<'a> FromReader<'a> for TableType {
     fn from_reader(reader: &mut BinaryReader<'a>) -> Result<Self> {
-        let (_, plain) = reader.item(library::table_type)?;
-        Ok(table_type(plain.ty))
+        reader.by(items::TableType::from_reader).map(TableType::of)
     }
 }
 
 impl<'a> FromReader<'a> for GlobalType {
     fn from_reader(reader: &mut BinaryReader<'a>) -> Result<Self> {
-        let (_, plain) = reader.item(library::global_type)?;
-        Ok(global_type(plain.ty))
+        reader.by(items::GlobalType::from_reader).map(GlobalType::of)
     }
 }
 
 impl<'a> FromReader<'a> for MemoryType {
     fn from_reader(reader: &mut BinaryReader<'a>) -> Result<Self> {
-        let (_, plain) = reader.item(library::memory)?;
-        Ok(memory_type(plain.ty))
+        reader.by(items::MemoryType::from_reader).map(MemoryType::of)
     }
 }
 
 impl<'a> FromReader<'a> for TagType {
     fn from_reader(reader: &mut BinaryReader<'a>) -> Result<Self> {
-        let (_, plain) = reader.item(library::tag)?;
-        Ok(exception_tag(plain.func_type_index))
+        let items::TagType { func_type_idx, .. } = reader.by(items::TagType::from_reader)?;
+        Ok(exception_tag(func_type_idx))
     }
 }

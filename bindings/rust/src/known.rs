@@ -1,10 +1,11 @@
 //! Custom sections that are known by their names.
-use crate::codes::custom_kind;
 use crate::composites::{Instances, Items, read_list};
 use crate::cores::{CoreDumpModulesSection, CoreDumpSection, CoreDumpStackSection};
-use crate::linking::LinkingSectionReader;
+use crate::linking::{LinkingSectionReader, flags_of};
+use crate::proved::base::FromReader as _;
+use crate::proved::custom;
 use crate::relocations::RelocSectionReader;
-use crate::{BinaryReader, CustomSectionReader, FromReader, NameSectionReader, Result, SectionLimited, Subsection, Subsections, SymbolFlags, library};
+use crate::{BinaryReader, CustomSectionReader, FromReader, NameSectionReader, Result, SectionLimited, Subsection, Subsections, SymbolFlags};
 use core::ops::Range;
 
 /// The data of a custom section, read as the name of the section says.
@@ -22,6 +23,7 @@ use core::ops::Range;
 /// # Ok::<(), pulleynavy::Error>(())
 /// ```
 #[derive(Clone, Debug)]
+#[non_exhaustive]
 pub enum KnownCustom<'a> {
     /// The section `name`.
     Name(NameSectionReader<'a>),
@@ -58,17 +60,17 @@ impl<'a> CustomSectionReader<'a> {
 
     fn known(&self) -> Result<KnownCustom<'a>> {
         let (name, data) = (self.name(), self.data_reader());
-        Ok(match library::classify_custom(name) {
-            custom_kind::NAME => KnownCustom::Name(NameSectionReader::new(data)),
-            custom_kind::BRANCH_HINTS => KnownCustom::BranchHints(BranchHintSectionReader::new(data)?),
-            custom_kind::PRODUCERS => KnownCustom::Producers(ProducersSectionReader::new(data)?),
-            custom_kind::DYLINK0 => KnownCustom::Dylink0(Dylink0SectionReader::new(data)),
-            custom_kind::LINKING => KnownCustom::Linking(LinkingSectionReader::new(data)?),
-            custom_kind::RELOC => KnownCustom::Reloc(RelocSectionReader::new(data)?),
-            custom_kind::CORE => KnownCustom::CoreDump(CoreDumpSection::new(data)?),
-            custom_kind::CORE_MODULES => KnownCustom::CoreDumpModules(CoreDumpModulesSection::new(data)?),
-            custom_kind::CORE_INSTANCES => KnownCustom::CoreDumpInstances(Instances::new(data)?),
-            custom_kind::CORE_STACK => KnownCustom::CoreDumpStack(CoreDumpStackSection::new(data)?),
+        Ok(match name {
+            "name" => KnownCustom::Name(NameSectionReader::new(data)),
+            "metadata.code.branch_hint" => KnownCustom::BranchHints(BranchHintSectionReader::new(data)?),
+            "producers" => KnownCustom::Producers(ProducersSectionReader::new(data)?),
+            "dylink.0" => KnownCustom::Dylink0(Dylink0SectionReader::new(data)),
+            "linking" => KnownCustom::Linking(LinkingSectionReader::new(data)?),
+            "core" => KnownCustom::CoreDump(CoreDumpSection::new(data)?),
+            "coremodules" => KnownCustom::CoreDumpModules(CoreDumpModulesSection::new(data)?),
+            "coreinstances" => KnownCustom::CoreDumpInstances(Instances::new(data)?),
+            "corestack" => KnownCustom::CoreDumpStack(CoreDumpStackSection::new(data)?),
+            _ if name.starts_with("reloc.") => KnownCustom::Reloc(RelocSectionReader::new(data)?),
             _ => KnownCustom::Unknown,
         })
     }
@@ -115,9 +117,9 @@ pub struct ProducersField<'a> {
 
 impl<'a> FromReader<'a> for ProducersField<'a> {
     fn from_reader(reader: &mut BinaryReader<'a>) -> Result<Self> {
-        let (window, plain) = reader.item(library::producers_field)?;
-        let values = SectionLimited::list(window, plain.values, plain.count);
-        Ok(ProducersField { name: window.text(plain.name), values })
+        let bytes = reader.rest;
+        let custom::ProducersField { name, values } = reader.by(custom::ProducersField::from_reader)?;
+        Ok(ProducersField { name, values: SectionLimited::inside(bytes, &values) })
     }
 }
 
@@ -142,8 +144,8 @@ pub struct ProducersFieldValue<'a> {
 
 impl<'a> FromReader<'a> for ProducersFieldValue<'a> {
     fn from_reader(reader: &mut BinaryReader<'a>) -> Result<Self> {
-        let (window, plain) = reader.item(library::producers_value)?;
-        Ok(ProducersFieldValue { name: window.text(plain.name), version: window.text(plain.version) })
+        let custom::ProducersFieldValue { name, version } = reader.by(custom::ProducersFieldValue::from_reader)?;
+        Ok(ProducersFieldValue { name, version })
     }
 }
 
@@ -186,9 +188,9 @@ pub struct BranchHintFunction<'a> {
 
 impl<'a> FromReader<'a> for BranchHintFunction<'a> {
     fn from_reader(reader: &mut BinaryReader<'a>) -> Result<Self> {
-        let (window, plain) = reader.item(library::hinted_function)?;
-        let hints = SectionLimited::list(window, plain.hints, plain.count);
-        Ok(BranchHintFunction { func: plain.func, hints })
+        let bytes = reader.rest;
+        let custom::BranchHintFunction { func, hints } = reader.by(custom::BranchHintFunction::from_reader)?;
+        Ok(BranchHintFunction { func, hints: SectionLimited::inside(bytes, &hints) })
     }
 }
 
@@ -213,8 +215,8 @@ pub struct BranchHint {
 
 impl<'a> FromReader<'a> for BranchHint {
     fn from_reader(reader: &mut BinaryReader<'a>) -> Result<Self> {
-        let (_, plain) = reader.item(library::branch_hint)?;
-        Ok(BranchHint { func_offset: plain.func_offset, taken: plain.taken != 0 })
+        let custom::BranchHint { func_offset, taken } = reader.by(custom::BranchHint::from_reader)?;
+        Ok(BranchHint { func_offset, taken })
     }
 }
 
@@ -322,8 +324,8 @@ pub struct MemInfo {
 
 impl<'a> FromReader<'a> for MemInfo {
     fn from_reader(reader: &mut BinaryReader<'a>) -> Result<Self> {
-        let (_, plain) = reader.item(library::dylink_memory)?;
-        let library::DylinkMemory { memory_size, memory_alignment, table_size, table_alignment, .. } = plain;
+        let info = reader.by(custom::MemInfo::from_reader)?;
+        let custom::MemInfo { memory_size, memory_alignment, table_size, table_alignment } = info;
         Ok(MemInfo { memory_size, memory_alignment, table_size, table_alignment })
     }
 }
@@ -349,8 +351,8 @@ pub struct ExportInfo<'a> {
 
 impl<'a> FromReader<'a> for ExportInfo<'a> {
     fn from_reader(reader: &mut BinaryReader<'a>) -> Result<Self> {
-        let (window, plain) = reader.item(library::dylink_export)?;
-        Ok(ExportInfo { name: window.text(plain.name), flags: SymbolFlags::from_bits_retain(plain.flags) })
+        let custom::ExportInfo { name, flags } = reader.by(custom::ExportInfo::from_reader)?;
+        Ok(ExportInfo { name, flags: flags_of(flags) })
     }
 }
 
@@ -378,7 +380,7 @@ pub struct ImportInfo<'a> {
 
 impl<'a> FromReader<'a> for ImportInfo<'a> {
     fn from_reader(reader: &mut BinaryReader<'a>) -> Result<Self> {
-        let (window, plain) = reader.item(library::dylink_import)?;
-        Ok(ImportInfo { module: window.text(plain.module_name), field: window.text(plain.field), flags: SymbolFlags::from_bits_retain(plain.flags) })
+        let custom::ImportInfo { module, field, flags } = reader.by(custom::ImportInfo::from_reader)?;
+        Ok(ImportInfo { module, field, flags: flags_of(flags) })
     }
 }

@@ -1,5 +1,5 @@
 // SPDX-License-Identifier: Apache-2.0 OR MIT
-//! A streaming parser for WebAssembly modules: the module layer of `wasmparser` 0.263.0, over a library with a machine-checked proof.
+//! A streaming parser for WebAssembly modules: the module layer of `wasmparser` 0.263.0, over sources with a machine-checked proof.
 //!
 //! The names are those of `wasmparser`, and so are the ways to use them:
 //!
@@ -18,7 +18,7 @@
 //! # Ok::<(), pulleynavy::Error>(())
 //! ```
 //!
-//! The results of the library are proved; this crate turns them into Rust's types, and is tested. Offsets are in bytes from the start of
+//! The module `proved` has the proved sources as Rust; the others give the results the types of `wasmparser`, and are tested. Offsets are in bytes from the start of
 //! the stream. Sections are read lazily: iterate over them to read their items. Nothing is validated beyond the format.
 //!
 //! The feature `alloc`, which is on by default, makes lists inside items vectors and slices. Without it the crate never allocates: lists
@@ -26,13 +26,12 @@
 //!
 //! The README has a table of what differs from `wasmparser`, and of what to write instead.
 #![no_std]
-#![deny(unsafe_code, clippy::undocumented_unsafe_blocks)]
+#![forbid(unsafe_code)]
 #![warn(missing_docs)]
 
 #[cfg(feature = "alloc")]
 extern crate alloc;
 
-#[allow(dead_code)]
 #[rustfmt::skip]
 mod codes;
 #[cfg_attr(feature = "alloc", path = "owned.rs")]
@@ -43,16 +42,11 @@ mod custom;
 mod edits;
 mod error;
 mod fault;
-#[allow(missing_docs, dead_code, unsafe_code)]
-#[rustfmt::skip]
-mod ffi;
 mod flags;
 mod imports;
 mod items;
 mod kinds;
 mod known;
-#[allow(unsafe_code)]
-mod library;
 mod limits;
 mod linking;
 #[cfg(not(feature = "alloc"))]
@@ -62,6 +56,10 @@ mod numbers;
 mod operators;
 mod parser;
 mod payload;
+#[allow(dead_code, unused_imports, missing_docs, clippy::all, clippy::pedantic)]
+mod proved {
+    include!(concat!(env!("OUT_DIR"), "/proved/mod.rs"));
+}
 mod reader;
 mod relocations;
 mod section;

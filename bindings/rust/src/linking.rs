@@ -1,6 +1,8 @@
 //! Sections for linkers.
-use crate::codes::{comdat_kind, symbol_kind};
-use crate::{BinaryReader, FromReader, Lead, Result, SectionLimited, SegmentFlags, Subsection, Subsections, SymbolFlags, library};
+use crate::proved::base::FromReader as _;
+use crate::proved::bitflags::Flags as _;
+use crate::proved::custom;
+use crate::{BinaryReader, Error, Fault, FromReader, Result, SectionLimited, SegmentFlags, Subsection, Subsections, SymbolFlags};
 use core::ops::Range;
 
 /// The section `linking`: a version and subsections.
@@ -36,8 +38,12 @@ impl<'a> LinkingSectionReader<'a> {
     /// 2.
     pub fn new(mut reader: BinaryReader<'a>) -> Result<Self> {
         let range = reader.remaining_range();
-        let (_, plain) = reader.item(library::linking_version)?;
-        Ok(LinkingSectionReader { version: plain.value as u32, range, subsections: Subsections::new(reader.shrink()) })
+        let offset = reader.original_position();
+        let version = reader.read_var_u32()?;
+        if version != 2 {
+            return Err(Error::new(Fault::LinkingVersion, offset).with_number(version.into()));
+        }
+        Ok(LinkingSectionReader { version, range, subsections: Subsections::new(reader.shrink()) })
     }
 
     /// Returns the version, which is always 2.
@@ -201,8 +207,8 @@ pub struct Segment<'a> {
 
 impl<'a> FromReader<'a> for Segment<'a> {
     fn from_reader(reader: &mut BinaryReader<'a>) -> Result<Self> {
-        let (window, plain) = reader.item(library::linking_segment)?;
-        Ok(Segment { name: window.text(plain.name), alignment: plain.alignment, flags: SegmentFlags::from_bits_retain(plain.flags) })
+        let custom::Segment { name, alignment, flags } = reader.by(custom::Segment::from_reader)?;
+        Ok(Segment { name, alignment, flags: SegmentFlags::from_bits_retain(flags.bits()) })
     }
 }
 
@@ -227,8 +233,8 @@ pub struct InitFunc {
 
 impl<'a> FromReader<'a> for InitFunc {
     fn from_reader(reader: &mut BinaryReader<'a>) -> Result<Self> {
-        let (_, plain) = reader.item(library::init_function)?;
-        Ok(InitFunc { priority: plain.priority, symbol_index: plain.symbol })
+        let custom::InitFunc { priority, symbol_index } = reader.by(custom::InitFunc::from_reader)?;
+        Ok(InitFunc { priority, symbol_index })
     }
 }
 
@@ -258,9 +264,9 @@ pub struct Comdat<'a> {
 
 impl<'a> FromReader<'a> for Comdat<'a> {
     fn from_reader(reader: &mut BinaryReader<'a>) -> Result<Self> {
-        let (window, plain) = reader.item(library::comdat)?;
-        let symbols = SectionLimited::list(window, plain.symbols, plain.count);
-        Ok(Comdat { name: window.text(plain.name), flags: plain.flags, symbols })
+        let bytes = reader.rest;
+        let custom::Comdat { name, flags, symbols } = reader.by(custom::Comdat::from_reader)?;
+        Ok(Comdat { name, flags, symbols: SectionLimited::inside(bytes, &symbols) })
     }
 }
 
@@ -301,30 +307,29 @@ pub enum ComdatSymbolKind {
 }
 
 impl ComdatSymbolKind {
-    /// The kind with this number.
-    fn of(number: u32) -> Option<Self> {
-        Some(match number {
-            comdat_kind::DATA => ComdatSymbolKind::Data,
-            comdat_kind::FUNC => ComdatSymbolKind::Func,
-            comdat_kind::GLOBAL => ComdatSymbolKind::Global,
-            comdat_kind::EVENT => ComdatSymbolKind::Event,
-            comdat_kind::TABLE => ComdatSymbolKind::Table,
-            comdat_kind::SECTION => ComdatSymbolKind::Section,
-            _ => return None,
-        })
+    /// The kind that the proved sources have.
+    fn of(kind: custom::ComdatSymbolKind) -> Self {
+        match kind {
+            custom::ComdatSymbolKind::Data => ComdatSymbolKind::Data,
+            custom::ComdatSymbolKind::Func => ComdatSymbolKind::Func,
+            custom::ComdatSymbolKind::Global => ComdatSymbolKind::Global,
+            custom::ComdatSymbolKind::Event => ComdatSymbolKind::Event,
+            custom::ComdatSymbolKind::Table => ComdatSymbolKind::Table,
+            custom::ComdatSymbolKind::Section => ComdatSymbolKind::Section,
+        }
     }
 }
 
 impl<'a> FromReader<'a> for ComdatSymbolKind {
     fn from_reader(reader: &mut BinaryReader<'a>) -> Result<Self> {
-        reader.read_kind(Lead::ComdatSymbol, |byte| ComdatSymbolKind::of(byte.into()))
+        reader.by(custom::ComdatSymbolKind::from_reader).map(ComdatSymbolKind::of)
     }
 }
 
 impl<'a> FromReader<'a> for ComdatSymbol {
     fn from_reader(reader: &mut BinaryReader<'a>) -> Result<Self> {
-        let (_, plain) = reader.item(library::comdat_symbol)?;
-        Ok(ComdatSymbol { kind: ComdatSymbolKind::of(plain.kind).expect("the library refuses other kinds"), index: plain.index })
+        let custom::ComdatSymbol { kind, index } = reader.by(custom::ComdatSymbol::from_reader)?;
+        Ok(ComdatSymbol { kind: ComdatSymbolKind::of(kind), index })
     }
 }
 
@@ -419,26 +424,33 @@ pub struct DefinedDataSymbol {
     pub size: u32,
 }
 
+impl DefinedDataSymbol {
+    /// The location that the proved sources have.
+    fn of(place: custom::DefinedDataSymbol) -> Self {
+        DefinedDataSymbol { index: place.index, offset: place.offset, size: place.size }
+    }
+}
+
 impl<'a> FromReader<'a> for DefinedDataSymbol {
     fn from_reader(reader: &mut BinaryReader<'a>) -> Result<Self> {
-        Ok(DefinedDataSymbol { index: reader.read()?, offset: reader.read()?, size: reader.read()? })
+        reader.by(custom::DefinedDataSymbol::from_reader).map(DefinedDataSymbol::of)
     }
+}
+
+/// The flags that the proved sources have.
+pub(crate) fn flags_of(flags: custom::SymbolFlags) -> SymbolFlags {
+    SymbolFlags::from_bits_retain(flags.bits())
 }
 
 impl<'a> FromReader<'a> for SymbolInfo<'a> {
     fn from_reader(reader: &mut BinaryReader<'a>) -> Result<Self> {
-        let (window, plain) = reader.item(library::symbol)?;
-        let (flags, index) = (SymbolFlags::from_bits_retain(plain.flags), plain.index);
-        let name = (plain.has_name != 0).then(|| window.text(plain.name));
-        let place = DefinedDataSymbol { index, offset: plain.data_offset, size: plain.data_size };
-        let symbol = match plain.kind {
-            symbol_kind::FUNC => SymbolInfo::Func { flags, index, name },
-            symbol_kind::DATA => SymbolInfo::Data { flags, name: name.unwrap_or_default(), symbol: (plain.is_defined != 0).then_some(place) },
-            symbol_kind::GLOBAL => SymbolInfo::Global { flags, index, name },
-            symbol_kind::SECTION => SymbolInfo::Section { flags, section: index },
-            symbol_kind::EVENT => SymbolInfo::Event { flags, index, name },
-            _ => SymbolInfo::Table { flags, index, name },
-        };
-        Ok(symbol)
+        Ok(match reader.by(custom::SymbolInfo::from_reader)? {
+            custom::SymbolInfo::Func { flags, index, name } => SymbolInfo::Func { flags: flags_of(flags), index, name },
+            custom::SymbolInfo::Data { flags, name, symbol } => SymbolInfo::Data { flags: flags_of(flags), name, symbol: symbol.map(DefinedDataSymbol::of) },
+            custom::SymbolInfo::Global { flags, index, name } => SymbolInfo::Global { flags: flags_of(flags), index, name },
+            custom::SymbolInfo::Section { flags, section } => SymbolInfo::Section { flags: flags_of(flags), section },
+            custom::SymbolInfo::Event { flags, index, name } => SymbolInfo::Event { flags: flags_of(flags), index, name },
+            custom::SymbolInfo::Table { flags, index, name } => SymbolInfo::Table { flags: flags_of(flags), index, name },
+        })
     }
 }

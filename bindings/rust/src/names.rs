@@ -1,5 +1,7 @@
 //! The section `name`.
-use crate::{BinaryReader, Error, Fault, FromReader, Result, SectionLimited, SectionLimitedIntoIter, Subsection, Subsections, library};
+use crate::proved::base::FromReader as _;
+use crate::proved::custom;
+use crate::{BinaryReader, Error, Fault, FromReader, Result, SectionLimited, SectionLimitedIntoIter, Subsection, Subsections};
 use core::ops::Range;
 
 /// An entry of a name map: an index and a name.
@@ -23,8 +25,8 @@ pub struct Naming<'a> {
 
 impl<'a> FromReader<'a> for Naming<'a> {
     fn from_reader(reader: &mut BinaryReader<'a>) -> Result<Self> {
-        let (window, plain) = reader.item(library::naming)?;
-        Ok(Naming { index: plain.index, name: window.text(plain.name) })
+        let custom::Naming { index, name } = reader.by(custom::Naming::from_reader)?;
+        Ok(Naming { index, name })
     }
 }
 
@@ -53,8 +55,9 @@ pub struct IndirectNaming<'a> {
 
 impl<'a> FromReader<'a> for IndirectNaming<'a> {
     fn from_reader(reader: &mut BinaryReader<'a>) -> Result<Self> {
-        let (window, plain) = reader.item(library::indirect_naming)?;
-        Ok(IndirectNaming { index: plain.index, names: NameMap::of(SectionLimited::list(window, plain.names, plain.count)) })
+        let bytes = reader.rest;
+        let custom::IndirectNaming { index, names } = reader.by(custom::IndirectNaming::from_reader)?;
+        Ok(IndirectNaming { index, names: NameMap::of(SectionLimited::inside(bytes, &names.names.into())) })
     }
 }
 
@@ -308,6 +311,6 @@ impl<'a> Subsection<'a> for Name<'a> {
 fn module(mut reader: BinaryReader<'_>) -> Result<Name<'_>> {
     let name_range = reader.remaining_range();
     let name = reader.read_string()?;
-    reader.expect_end(library::name_end)?;
+    reader.expect_end(Fault::NameTrailing)?;
     Ok(Name::Module { name, name_range })
 }

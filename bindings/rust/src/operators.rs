@@ -1,8 +1,5 @@
 //! The instructions of constant expressions.
-use crate::codes::opcode;
-use crate::library::{self, Instruction};
-use crate::section::Window;
-use crate::types::heap_type;
+use crate::proved::items;
 use crate::{BinaryReader, HeapType, Ieee32, Ieee64, Result};
 use core::convert::Infallible;
 use core::iter::FusedIterator;
@@ -118,33 +115,35 @@ pub enum Operator<'a> {
     Borrowed(Infallible, PhantomData<&'a ()>),
 }
 
-/// The instruction that the library read at the start of these bytes.
-fn operator<'a>(window: Window<'a>, plain: &Instruction) -> Operator<'a> {
-    let Instruction { index, count: array_size, integer, bits, .. } = *plain;
-    match plain.opcode {
-        opcode::GLOBAL_GET => Operator::GlobalGet { global_index: index },
-        opcode::I32_CONST => Operator::I32Const { value: integer as i32 },
-        opcode::I64_CONST => Operator::I64Const { value: integer },
-        opcode::F32_CONST => Operator::F32Const { value: Ieee32(bits as u32) },
-        opcode::F64_CONST => Operator::F64Const { value: Ieee64(bits) },
-        opcode::V128_CONST => Operator::V128Const { value: V128(window.part(plain.bytes).bytes.try_into().expect("a vector has 16 bytes")) },
-        opcode::I32_ADD => Operator::I32Add,
-        opcode::I32_SUB => Operator::I32Sub,
-        opcode::I32_MUL => Operator::I32Mul,
-        opcode::I64_ADD => Operator::I64Add,
-        opcode::I64_SUB => Operator::I64Sub,
-        opcode::I64_MUL => Operator::I64Mul,
-        opcode::REF_NULL => Operator::RefNull { hty: heap_type(plain.heap, index) },
-        opcode::REF_FUNC => Operator::RefFunc { function_index: index },
-        opcode::REF_I31 => Operator::RefI31,
-        opcode::STRUCT_NEW => Operator::StructNew { struct_type_index: index },
-        opcode::STRUCT_NEW_DEFAULT => Operator::StructNewDefault { struct_type_index: index },
-        opcode::ARRAY_NEW => Operator::ArrayNew { array_type_index: index },
-        opcode::ARRAY_NEW_DEFAULT => Operator::ArrayNewDefault { array_type_index: index },
-        opcode::ARRAY_NEW_FIXED => Operator::ArrayNewFixed { array_type_index: index, array_size },
-        opcode::ANY_CONVERT_EXTERN => Operator::AnyConvertExtern,
-        opcode::EXTERN_CONVERT_ANY => Operator::ExternConvertAny,
-        _ => Operator::End,
+impl Operator<'_> {
+    /// The operator that the proved sources have.
+    fn of(operator: items::ConstOperator) -> Self {
+        use items::ConstOperator as Const;
+        match operator {
+            Const::End => Operator::End,
+            Const::GlobalGet { global_index } => Operator::GlobalGet { global_index },
+            Const::I32Const { value } => Operator::I32Const { value },
+            Const::I64Const { value } => Operator::I64Const { value },
+            Const::F32Const { value } => Operator::F32Const { value: Ieee32(value.bits()) },
+            Const::F64Const { value } => Operator::F64Const { value: Ieee64(value.bits()) },
+            Const::V128Const { value } => Operator::V128Const { value: V128(*value.bytes()) },
+            Const::I32Add => Operator::I32Add,
+            Const::I32Sub => Operator::I32Sub,
+            Const::I32Mul => Operator::I32Mul,
+            Const::I64Add => Operator::I64Add,
+            Const::I64Sub => Operator::I64Sub,
+            Const::I64Mul => Operator::I64Mul,
+            Const::RefNull { hty } => Operator::RefNull { hty: HeapType::of(hty) },
+            Const::RefFunc { function_index } => Operator::RefFunc { function_index },
+            Const::RefI31 => Operator::RefI31,
+            Const::StructNew { struct_type_index } => Operator::StructNew { struct_type_index },
+            Const::StructNewDefault { struct_type_index } => Operator::StructNewDefault { struct_type_index },
+            Const::ArrayNew { array_type_index } => Operator::ArrayNew { array_type_index },
+            Const::ArrayNewDefault { array_type_index } => Operator::ArrayNewDefault { array_type_index },
+            Const::ArrayNewFixed { array_type_index, array_size } => Operator::ArrayNewFixed { array_type_index, array_size },
+            Const::AnyConvertExtern => Operator::AnyConvertExtern,
+            Const::ExternConvertAny => Operator::ExternConvertAny,
+        }
     }
 }
 
@@ -188,7 +187,7 @@ impl<'a> OperatorsReader<'a> {
     /// Returns whether the next instruction is `end` and is the last one.
     #[must_use]
     pub fn is_end_then_eof(&self) -> bool {
-        self.reader.remaining_buffer() == [opcode::END as u8]
+        self.reader.remaining_buffer() == [0x0b]
     }
 
     /// Returns a reader over the remaining bytes.
@@ -204,8 +203,8 @@ impl<'a> OperatorsReader<'a> {
     /// `NotConstant` at an instruction that is not allowed in a constant expression, `UnexpectedEof` where bytes are missing, and
     /// the errors of malformed operands.
     pub fn read(&mut self) -> Result<Operator<'a>> {
-        let (window, plain) = self.reader.item(library::instruction)?;
-        Ok(operator(window, &plain))
+        let items::ConstInstruction { operator, .. } = self.reader.by(items::read_instruction)?;
+        Ok(Operator::of(operator))
     }
 
     /// Reads the next instruction, and returns it with its offset in bytes from the start of the stream.

@@ -1,10 +1,13 @@
 //! Items that own lists.
-use crate::codes::composite_kind;
+use crate::cores::begin_here;
 use crate::error::Result;
+use crate::proved::base::{self, FromReader as _};
+use crate::proved::items;
 use crate::types::type_index;
-use crate::{ArrayType, BinaryReader, ContType, CoreDumpValue, FieldType, FromReader, PackedIndex, SectionLimited, ValType, library};
+use crate::{ArrayType, BinaryReader, ContType, CoreDumpValue, CoreStart, Fault, FieldType, FromReader, PackedIndex, SectionLimited, ValType};
 use alloc::boxed::Box;
 use alloc::vec::{self, Vec};
+use core::iter::FusedIterator;
 use core::slice;
 
 /// A list inside an item that borrows from the input anyway.
@@ -56,7 +59,7 @@ fn read_counted<'a, T: FromReader<'a>>(reader: &mut BinaryReader<'a>) -> Result<
 /// ```
 #[derive(Clone, Debug, PartialEq, Eq, Hash, PartialOrd, Ord)]
 pub struct FuncType {
-    types: Box<[ValType]>,
+    types: Vec<ValType>,
     params: usize,
 }
 
@@ -75,7 +78,7 @@ impl FuncType {
         let mut types: Vec<_> = params.into_iter().collect();
         let params = types.len();
         types.extend(results);
-        FuncType { types: types.into(), params }
+        FuncType { types, params }
     }
 
     /// Returns the types of the parameters.
@@ -92,13 +95,28 @@ impl FuncType {
 
     /// Reads the parameters, of which there are this many, and then the results.
     fn read(reader: &mut BinaryReader<'_>, params: u32) -> Result<Self> {
-        let mut types = read_items(reader, params, ValType::from_reader, ValType::from_reader)?;
-        let params = types.len();
-        for _ in 0..reader.read_var_u32()? {
-            types.push(reader.read()?);
-        }
-        Ok(FuncType { types: types.into(), params })
+        // A type takes a byte at least, so a count alone allocates no more than the input has.
+        let room = (params as usize).saturating_add(FEW).min(reader.bytes_remaining());
+        let mut types = Vec::with_capacity(room);
+        reader.by(|reader| {
+            push_types(reader, params, &mut types)?;
+            let results = reader.read_var_u32()?;
+            push_types(reader, results, &mut types)
+        })?;
+        Ok(FuncType { types, params: params as usize })
     }
+}
+
+/// How many results there is room for without another allocation.
+const FEW: usize = 2;
+
+/// Appends this many types.
+#[inline(always)]
+fn push_types(reader: &mut base::BinaryReader<'_>, count: u32, types: &mut Vec<ValType>) -> base::Result<()> {
+    for _ in 0..count {
+        types.push(ValType::of(items::ValType::from_reader(reader)?));
+    }
+    Ok(())
 }
 
 impl<'a> FromReader<'a> for FuncType {
@@ -272,14 +290,15 @@ impl SubType {
 
 impl<'a> FromReader<'a> for SubType {
     fn from_reader(reader: &mut BinaryReader<'a>) -> Result<Self> {
-        let (_, head) = reader.item(library::subtype)?;
-        let inner = match head.kind {
-            composite_kind::FUNC => CompositeInnerType::Func(FuncType::read(reader, head.count)?),
-            composite_kind::ARRAY => CompositeInnerType::Array(reader.read()?),
-            _ => CompositeInnerType::Struct(StructType { fields: read_items(reader, head.count, FieldType::from_reader, FieldType::from_reader)?.into() }),
+        let items::SubTypeHead { is_final, supertype, kind, count } = reader.by(items::SubTypeHead::from_reader)?;
+        let inner = match kind {
+            items::CompositeKind::Func => CompositeInnerType::Func(FuncType::read(reader, count)?),
+            items::CompositeKind::Array => CompositeInnerType::Array(reader.read()?),
+            items::CompositeKind::Struct => {
+                CompositeInnerType::Struct(StructType { fields: read_items(reader, count, FieldType::from_reader, FieldType::from_reader)?.into() })
+            }
         };
-        let supertype_idx = (head.has_supertype != 0).then(|| type_index(head.supertype));
-        Ok(SubType { is_final: head.is_final != 0, supertype_idx, composite_type: CompositeType { inner, shared: false } })
+        Ok(SubType { is_final, supertype_idx: supertype.map(type_index), composite_type: CompositeType { inner, shared: false } })
     }
 }
 
@@ -297,33 +316,72 @@ impl<'a> FromReader<'a> for SubType {
 /// ```
 #[derive(Clone, Debug, PartialEq, Eq, Hash)]
 pub struct RecGroup {
-    explicit: bool,
-    types: Vec<SubType>,
+    types: Types,
+}
+
+/// The types of a group. One that is not encoded as a group needs no list.
+#[derive(Clone, Debug, PartialEq, Eq, Hash)]
+enum Types {
+    One([SubType; 1]),
+    Group(Vec<SubType>),
 }
 
 impl RecGroup {
     /// Returns whether the group is encoded as a group. Otherwise it is a single type.
     #[must_use]
     pub fn is_explicit_rec_group(&self) -> bool {
-        self.explicit
+        matches!(self.types, Types::Group(_))
     }
 
     /// Returns an iterator over the types of the group, in order.
     pub fn types(&self) -> slice::Iter<'_, SubType> {
-        self.types.iter()
+        match &self.types {
+            Types::One(types) => types.iter(),
+            Types::Group(types) => types.iter(),
+        }
     }
 
     /// Returns an iterator over the types of the group, in order, by value.
     #[must_use]
-    pub fn into_types(self) -> vec::IntoIter<SubType> {
-        self.types.into_iter()
+    pub fn into_types(self) -> IntoTypes {
+        match self.types {
+            Types::One([one]) => IntoTypes { one: Some(one), more: Vec::new().into_iter() },
+            Types::Group(types) => IntoTypes { one: None, more: types.into_iter() },
+        }
     }
 }
 
+/// An iterator over the types of a group, by value.
+#[derive(Clone, Debug)]
+pub struct IntoTypes {
+    one: Option<SubType>,
+    more: vec::IntoIter<SubType>,
+}
+
+impl Iterator for IntoTypes {
+    type Item = SubType;
+
+    fn next(&mut self) -> Option<SubType> {
+        self.one.take().or_else(|| self.more.next())
+    }
+
+    fn size_hint(&self) -> (usize, Option<usize>) {
+        let left = usize::from(self.one.is_some()) + self.more.len();
+        (left, Some(left))
+    }
+}
+
+impl ExactSizeIterator for IntoTypes {}
+
+impl FusedIterator for IntoTypes {}
+
 impl<'a> FromReader<'a> for RecGroup {
     fn from_reader(reader: &mut BinaryReader<'a>) -> Result<Self> {
-        let (_, head) = reader.item(library::type_group)?;
-        Ok(RecGroup { explicit: head.is_explicit != 0, types: read_items(reader, head.count, SubType::from_reader, SubType::from_reader)? })
+        let items::RecGroupHead { explicit, count } = reader.by(items::RecGroupHead::from_reader)?;
+        if !explicit {
+            return Ok(RecGroup { types: Types::One([reader.read()?]) });
+        }
+        Ok(RecGroup { types: Types::Group(read_items(reader, count, SubType::from_reader, SubType::from_reader)?) })
     }
 }
 
@@ -355,7 +413,7 @@ impl CoreDumpInstancesSection {
     /// The errors of the count and of an instance, or `CustomTrailing` at the first byte after the last instance.
     pub fn new(mut reader: BinaryReader<'_>) -> Result<Self> {
         let instances = read_counted(&mut reader)?;
-        reader.expect_end(library::custom_end)?;
+        reader.expect_end(Fault::CustomTrailing)?;
         Ok(CoreDumpInstancesSection { instances })
     }
 }
@@ -383,8 +441,8 @@ pub struct CoreDumpInstance {
 
 impl<'a> FromReader<'a> for CoreDumpInstance {
     fn from_reader(reader: &mut BinaryReader<'a>) -> Result<Self> {
-        let (_, plain) = reader.item(library::core_instance)?;
-        Ok(CoreDumpInstance { module_index: plain.module_index, memories: read_counted(reader)?, globals: read_counted(reader)? })
+        begin_here(reader, CoreStart::Instance)?;
+        Ok(CoreDumpInstance { module_index: reader.read()?, memories: read_counted(reader)?, globals: read_counted(reader)? })
     }
 }
 
@@ -415,8 +473,8 @@ pub struct CoreDumpStackFrame {
 
 impl<'a> FromReader<'a> for CoreDumpStackFrame {
     fn from_reader(reader: &mut BinaryReader<'a>) -> Result<Self> {
-        let (_, plain) = reader.item(library::core_frame)?;
-        let (instanceidx, funcidx, codeoffset) = (plain.instance, plain.func, plain.code_offset);
+        begin_here(reader, CoreStart::Frame)?;
+        let (instanceidx, funcidx, codeoffset) = (reader.read()?, reader.read()?, reader.read()?);
         Ok(CoreDumpStackFrame { instanceidx, funcidx, codeoffset, locals: read_counted(reader)?, stack: read_counted(reader)? })
     }
 }

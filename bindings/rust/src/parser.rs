@@ -1,9 +1,8 @@
 //! The parser.
-use crate::codes::event_kind;
-use crate::payload::payload;
-use crate::section::Window;
-use crate::skipped::{SkippedPart, skipped_part};
-use crate::{BinaryReader, Error, Payload, Result, WasmFeatures, library};
+use crate::payload::{payload, unknown};
+use crate::proved::frames::{FrameKind, NextFrame, Outcome, StoredParser};
+use crate::skipped::SkippedPart;
+use crate::{BinaryReader, CustomSectionReader, Error, FunctionBody, Payload, Result, WasmFeatures};
 
 /// The result of [`Parser::parse`]: a payload, or a request for more input.
 ///
@@ -54,7 +53,26 @@ pub enum Chunk<'a> {
 /// # Ok::<(), pulleynavy::Error>(())
 /// ```
 #[derive(Clone, Debug)]
-pub struct Parser(library::Parser);
+pub struct Parser(StoredParser);
+
+impl<'a> Outcome<'a> for Parser {
+    type Out = Result<Chunk<'a>>;
+
+    #[inline(always)]
+    fn of(next: NextFrame<'a>) -> Result<Chunk<'a>> {
+        match next {
+            // Each of the frequent kinds on its own, so that its fields go straight to the caller's memory.
+            NextFrame::Parsed { frame, consumed } => match frame.kind() {
+                FrameKind::Custom => Ok(Chunk::Parsed { consumed, payload: Payload::CustomSection(CustomSectionReader::of(frame)) }),
+                FrameKind::Body => Ok(Chunk::Parsed { consumed, payload: Payload::CodeSectionEntry(FunctionBody::of(frame)) }),
+                FrameKind::Unknown => Ok(Chunk::Parsed { consumed, payload: unknown(frame) }),
+                _ => Ok(Chunk::Parsed { consumed, payload: payload(frame) }),
+            },
+            NextFrame::NeedMoreData(hint) => Ok(Chunk::NeedMoreData(hint)),
+            NextFrame::Fault(error) => Err(Error::of(error)),
+        }
+    }
+}
 
 impl Default for Parser {
     fn default() -> Self {
@@ -66,7 +84,7 @@ impl Parser {
     /// Returns a parser for a stream that begins at this offset, with all features.
     #[must_use]
     pub fn new(offset: u64) -> Self {
-        Parser(library::parser_init(offset, WasmFeatures::all().low_bits()))
+        Parser(StoredParser { features: WasmFeatures::all().low_bits(), ..StoredParser::new(offset) })
     }
 
     /// Returns whether bytes begin with the 8 bytes of a module's header.
@@ -132,13 +150,8 @@ impl Parser {
     /// The error of malformed input, at the offset that its [`Fault`](crate::Fault) documents. With `eof`, truncated input is
     /// `UnexpectedEof`. The parser is then unchanged, so that the same call returns the same error.
     pub fn parse<'a>(&mut self, data: &'a [u8], eof: bool) -> Result<Chunk<'a>> {
-        let before = Window { bytes: data, offset: self.0.offset, features: self.0.features };
-        let event = library::parse(&mut self.0, data, eof);
-        match event.kind {
-            event_kind::NEED_MORE => Ok(Chunk::NeedMoreData(event.hint)),
-            event_kind::FAULT => Err(Error::reported(event.fault)),
-            _ => Ok(Chunk::Parsed { consumed: event.consumed, payload: payload(before, &event) }),
-        }
+        self.0.settle();
+        self.0.next_as::<Parser, true>(data, eof)
     }
 
     /// Returns the number of remaining bytes of a code section, from its start until the next payload that is not a body;
@@ -174,7 +187,7 @@ impl Parser {
     /// # Ok::<(), pulleynavy::Error>(())
     /// ```
     pub fn skip_section(&mut self) {
-        library::skip_section(&mut self.0);
+        self.0.skip_section();
     }
 
     /// Skips the next section or body if its first fields are in `data`, but not all of it. Pass the bytes from `range.end` on in the
@@ -199,9 +212,7 @@ impl Parser {
     /// # Ok::<(), pulleynavy::Error>(())
     /// ```
     pub fn skip_part<'a>(&mut self, data: &'a [u8]) -> Option<SkippedPart<'a>> {
-        let held = Window { bytes: data, offset: self.0.offset, features: self.0.features };
-        let event = library::skip(&mut self.0, data);
-        skipped_part(held, &event)
+        self.0.skip_next(data).map(SkippedPart::of)
     }
 
     /// Returns an iterator over the payloads of a complete stream.

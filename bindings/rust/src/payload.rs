@@ -1,7 +1,7 @@
 //! Payloads: the parts of a stream.
-use crate::codes::event_kind;
 use crate::composites::{Func, RecGroups};
-use crate::library::{Event, Span};
+use crate::proved::frames::{Frame, FrameKind};
+use crate::proved::grammar;
 use crate::section::Window;
 use crate::{
     BinaryReader, CompositeInnerType, CustomSectionReader, Data, Element, Error, Export, Fault, Global, Imports, MemoryType, Result, SectionLimited, SubType,
@@ -195,6 +195,16 @@ pub enum Encoding {
     Component,
 }
 
+impl Encoding {
+    /// The encoding that the proved sources have.
+    fn of(encoding: grammar::Encoding) -> Self {
+        match encoding {
+            grammar::Encoding::Module => Encoding::Module,
+            grammar::Encoding::Component => Encoding::Component,
+        }
+    }
+}
+
 /// The body of a function: its locals and instructions, which are not decoded.
 ///
 /// # Examples
@@ -212,6 +222,12 @@ pub struct FunctionBody<'a> {
 }
 
 impl<'a> FunctionBody<'a> {
+    /// The body of a frame.
+    #[inline(always)]
+    pub(crate) fn of(frame: Frame<'a>) -> Self {
+        FunctionBody { window: Window::of(&frame.into_reader()) }
+    }
+
     /// Takes the remaining bytes of a reader as a body, without reading them.
     #[must_use]
     pub fn new(reader: BinaryReader<'a>) -> Self {
@@ -410,42 +426,42 @@ impl fmt::Debug for Payload<'_> {
     }
 }
 
-/// The payload of an event, of bytes that begin at the parser's offset.
-pub(crate) fn payload<'a>(bytes: Window<'a>, event: &Event) -> Payload<'a> {
-    let range = event.start..event.end;
-    // The end has no bytes, and the range of a code section goes beyond those that were consumed.
-    let size = event.end.min(bytes.range().end) - event.start;
-    let window = bytes.part(Span { at: event.at, size: size as usize });
-    match event.kind {
-        event_kind::VERSION => {
-            let encoding = if event.id == 0 { Encoding::Module } else { Encoding::Component };
-            Payload::Version { num: event.count as u16, encoding, range }
-        }
-        event_kind::SECTION => counted(window, event),
-        event_kind::START => Payload::StartSection { func: event.count, range },
-        event_kind::DATA_COUNT => Payload::DataCountSection { count: event.count, range },
-        event_kind::CODE => Payload::CodeSectionStart { count: event.count, unchecked_range: range, size: event.size },
-        event_kind::BODY => Payload::CodeSectionEntry(FunctionBody { window }),
-        event_kind::CUSTOM => Payload::CustomSection(CustomSectionReader::of(window, event.data_offset, event.name_size)),
-        event_kind::END => Payload::End(event.start),
-        _ => Payload::UnknownSection { id: event.id as u8, contents: window.bytes, range },
+/// A section with an unknown id, or of a component.
+#[inline(always)]
+pub(crate) fn unknown<'a>(frame: Frame<'a>) -> Payload<'a> {
+    let (id, range) = (frame.id(), frame.range());
+    Payload::UnknownSection { id, contents: frame.into_reader().remaining_buffer(), range }
+}
+
+/// The payload of a frame.
+pub(crate) fn payload<'a>(frame: Frame<'a>) -> Payload<'a> {
+    let (count, range) = (frame.count(), frame.range());
+    match frame.kind() {
+        FrameKind::Header => Payload::Version { num: frame.version(), encoding: Encoding::of(frame.encoding()), range },
+        FrameKind::Items => counted(frame),
+        FrameKind::Start => Payload::StartSection { func: count, range },
+        FrameKind::DataCount => Payload::DataCountSection { count, range },
+        FrameKind::CodeStart => Payload::CodeSectionStart { count, unchecked_range: range, size: frame.size() },
+        FrameKind::Body => Payload::CodeSectionEntry(FunctionBody::of(frame)),
+        FrameKind::Custom => Payload::CustomSection(CustomSectionReader::of(frame)),
+        FrameKind::Unknown => unknown(frame),
+        FrameKind::End => Payload::End(range.start),
     }
 }
 
-/// The section of an event that begins with a count.
-fn counted<'a>(section: Window<'a>, event: &Event) -> Payload<'a> {
-    let &Event { id, count, data_offset: items, .. } = event;
-    match id {
-        1 => Payload::TypeSection(SectionLimited::counted(section, items, count)),
-        2 => Payload::ImportSection(SectionLimited::counted(section, items, count)),
-        3 => Payload::FunctionSection(SectionLimited::counted(section, items, count)),
-        4 => Payload::TableSection(SectionLimited::counted(section, items, count)),
-        5 => Payload::MemorySection(SectionLimited::counted(section, items, count)),
-        6 => Payload::GlobalSection(SectionLimited::counted(section, items, count)),
-        7 => Payload::ExportSection(SectionLimited::counted(section, items, count)),
-        9 => Payload::ElementSection(SectionLimited::counted(section, items, count)),
-        11 => Payload::DataSection(SectionLimited::counted(section, items, count)),
-        13 => Payload::TagSection(SectionLimited::counted(section, items, count)),
-        _ => Payload::UnknownSection { id: id as u8, contents: section.bytes, range: section.range() },
+/// The payload of a section that begins with a count of items.
+fn counted<'a>(frame: Frame<'a>) -> Payload<'a> {
+    match frame.id() {
+        1 => Payload::TypeSection(SectionLimited::counted(frame)),
+        2 => Payload::ImportSection(SectionLimited::counted(frame)),
+        3 => Payload::FunctionSection(SectionLimited::counted(frame)),
+        4 => Payload::TableSection(SectionLimited::counted(frame)),
+        5 => Payload::MemorySection(SectionLimited::counted(frame)),
+        6 => Payload::GlobalSection(SectionLimited::counted(frame)),
+        7 => Payload::ExportSection(SectionLimited::counted(frame)),
+        9 => Payload::ElementSection(SectionLimited::counted(frame)),
+        11 => Payload::DataSection(SectionLimited::counted(frame)),
+        13 => Payload::TagSection(SectionLimited::counted(frame)),
+        _ => unknown(frame),
     }
 }

@@ -1,5 +1,5 @@
 //! A reader of bytes.
-use crate::library::{self, Item, Span};
+use crate::proved::base;
 use crate::section::Window;
 use crate::{Error, Fault, FromReader, Ieee32, Ieee64, Lead, MAX_WASM_STRING_SIZE, Result, WasmFeatures};
 use core::ops::Range;
@@ -116,7 +116,7 @@ impl<'a> BinaryReader<'a> {
 
     /// Moves past this many bytes, which are there.
     pub(crate) fn pass(&mut self, count: usize) -> Window<'a> {
-        let passed = self.rest.part(Span { at: 0, size: count });
+        let passed = self.rest.front(count);
         self.rest = self.rest.after(count);
         passed
     }
@@ -145,18 +145,22 @@ impl<'a> BinaryReader<'a> {
         Error::new(fault, self.rest.offset)
     }
 
-    /// Returns the fault that the library reports for the remaining bytes, if there are any.
-    pub(crate) fn expect_end(&self, check: fn(&Window<'_>) -> library::Fault) -> Result<()> {
-        Error::check(check(&self.rest))
+    /// Returns this fault at the first remaining byte, if there is one.
+    pub(crate) fn expect_end(&self, fault: Fault) -> Result<()> {
+        if self.eof() { Ok(()) } else { Err(self.error(fault)) }
     }
 
-    /// Reads an item with the library and moves past it. Returns the bytes before the call, to which its spans refer, and the item.
-    pub(crate) fn item<T: Item>(&mut self, read: impl FnOnce(&Window<'a>) -> T) -> Result<(Window<'a>, T)> {
-        let window = self.rest;
-        let item = read(&window);
-        Error::check(item.fault())?;
-        self.rest = window.after(item.consumed());
-        Ok((window, item))
+    /// Reads with the proved reader, and moves past what it read. After an error the reader is unchanged.
+    #[inline(always)]
+    pub(crate) fn by<T>(&mut self, read: impl FnOnce(&mut base::BinaryReader<'a>) -> base::Result<T>) -> Result<T> {
+        let mut reader = self.rest.reader();
+        match read(&mut reader) {
+            Ok(item) => {
+                self.rest = Window::of(&reader);
+                Ok(item)
+            }
+            Err(error) => Err(Error::of(error)),
+        }
     }
 
     /// Returns the next byte without consuming it.
@@ -256,11 +260,6 @@ impl<'a> BinaryReader<'a> {
         self.read_u32()
     }
 
-    /// Reads a LEB128 number with the library, which returns no hints. A truncated number needs at least one more byte.
-    fn number<T: Item>(&mut self, read: impl FnOnce(&Window<'a>) -> T) -> Result<T> {
-        self.item(read).map(|(_, number)| number).map_err(|error| error.with_hint(1))
-    }
-
     /// Reads an unsigned 32-bit number in LEB128.
     ///
     /// # Errors
@@ -278,7 +277,7 @@ impl<'a> BinaryReader<'a> {
     /// # Ok::<(), pulleynavy::Error>(())
     /// ```
     pub fn read_var_u32(&mut self) -> Result<u32> {
-        Ok(self.number(library::var_u32)?.value as u32)
+        self.by(base::BinaryReader::read_var_u32)
     }
 
     /// Reads a signed 32-bit number in LEB128.
@@ -287,7 +286,7 @@ impl<'a> BinaryReader<'a> {
     ///
     /// `UnexpectedEof` at the end of the bytes if the number is truncated; `NumberTooLong` or `NumberTooLarge` at its fifth byte.
     pub fn read_var_i32(&mut self) -> Result<i32> {
-        Ok(self.number(library::var_s32)?.value as i32)
+        self.by(base::BinaryReader::read_var_i32)
     }
 
     /// Reads an unsigned 64-bit number in LEB128.
@@ -296,7 +295,7 @@ impl<'a> BinaryReader<'a> {
     ///
     /// `UnexpectedEof` at the end of the bytes if the number is truncated; `NumberTooLong` or `NumberTooLarge` at its tenth byte.
     pub fn read_var_u64(&mut self) -> Result<u64> {
-        Ok(self.number(library::var_u64)?.value)
+        self.by(base::BinaryReader::read_var_u64)
     }
 
     /// Reads a signed 64-bit number in LEB128.
@@ -305,7 +304,7 @@ impl<'a> BinaryReader<'a> {
     ///
     /// `UnexpectedEof` at the end of the bytes if the number is truncated; `NumberTooLong` or `NumberTooLarge` at its tenth byte.
     pub fn read_var_i64(&mut self) -> Result<i64> {
-        Ok(self.number(library::var_s64)?.value)
+        self.by(base::BinaryReader::read_var_i64)
     }
 
     /// Reads a signed 33-bit number in LEB128.
@@ -314,7 +313,7 @@ impl<'a> BinaryReader<'a> {
     ///
     /// `UnexpectedEof` at the end of the bytes if the number is truncated; `NumberTooLong` or `NumberTooLarge` at its fifth byte.
     pub fn read_var_s33(&mut self) -> Result<i64> {
-        Ok(self.number(library::var_s33)?.value)
+        self.by(base::BinaryReader::read_var_s33)
     }
 
     /// Reads the bits of a 32-bit float.
@@ -357,15 +356,6 @@ impl<'a> BinaryReader<'a> {
         Ok(BinaryReader::of(self.take(size)?))
     }
 
-    /// Reads a string with the library, which returns no hints. If bytes are missing, `read_reader` fails at the same offset, with a hint.
-    fn text(&mut self, read: fn(&Window<'_>) -> library::Name) -> Result<&'a str> {
-        match self.item(read) {
-            Ok((window, plain)) => Ok(window.text(plain.name)),
-            Err(error) if error.fault() == Fault::UnexpectedEof => Err(self.clone().read_reader().err().unwrap_or(error)),
-            Err(error) => Err(error),
-        }
-    }
-
     /// Reads a string of at most 100,000 bytes.
     ///
     /// # Errors
@@ -375,7 +365,7 @@ impl<'a> BinaryReader<'a> {
     /// * `UnexpectedEof` after the size if bytes are missing.
     /// * `MalformedUtf8` at the last byte of the string.
     pub fn read_string(&mut self) -> Result<&'a str> {
-        self.text(library::name)
+        self.by(base::BinaryReader::read_string)
     }
 
     /// Reads a string of any length.
@@ -384,7 +374,7 @@ impl<'a> BinaryReader<'a> {
     ///
     /// Those of [`BinaryReader::read_string`], except `StringSize`.
     pub fn read_unlimited_string(&mut self) -> Result<&'a str> {
-        self.text(library::text)
+        self.by(base::BinaryReader::read_unlimited_string)
     }
 
     /// Skips a string of at most 100,000 bytes, which may be invalid UTF-8.
@@ -443,6 +433,6 @@ impl<'a> BinaryReader<'a> {
         let before = self.rest;
         pass(self)?;
         let size = self.rest.offset.checked_sub(before.offset).expect("the function moves forwards");
-        Ok(BinaryReader::of(before.part(Span { at: 0, size: size as usize })))
+        Ok(BinaryReader::of(before.front(size as usize)))
     }
 }

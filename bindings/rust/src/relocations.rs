@@ -1,5 +1,7 @@
 //! Relocations.
-use crate::{BinaryReader, Error, Fault, FromReader, Lead, Result, SectionLimited, library};
+use crate::proved::base::FromReader as _;
+use crate::proved::custom;
+use crate::{BinaryReader, Error, Fault, FromReader, Lead, Result, SectionLimited};
 use core::ops::Range;
 
 /// The encoding of the addend of a relocation type.
@@ -209,9 +211,8 @@ impl RelocationEntry {
 
 impl<'a> FromReader<'a> for RelocationEntry {
     fn from_reader(reader: &mut BinaryReader<'a>) -> Result<Self> {
-        let (_, plain) = reader.item(library::relocation)?;
-        let library::Relocation { kind, offset, index, addend, .. } = plain;
-        let ty = RelocationType::try_from(kind as u8).expect("the library refuses other types");
+        let custom::RelocationEntry { ty, offset, index, addend } = reader.by(custom::RelocationEntry::from_reader)?;
+        let ty = RelocationType::try_from(ty as u8).expect("the proved sources refuse other types");
         Ok(RelocationEntry { ty, offset, index, addend })
     }
 }

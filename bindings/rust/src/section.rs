@@ -1,5 +1,7 @@
 //! Counted items in a window.
-use crate::library::Span;
+use crate::proved::base;
+use crate::proved::bitflags::Flags;
+use crate::proved::frames::Frame;
 use crate::{BinaryReader, Error, Fault, Result};
 use core::fmt;
 use core::iter::FusedIterator;
@@ -15,6 +17,18 @@ pub(crate) struct Window<'a> {
 }
 
 impl<'a> Window<'a> {
+    /// The remaining bytes of a proved reader.
+    #[inline(always)]
+    pub(crate) fn of(reader: &base::BinaryReader<'a>) -> Self {
+        Window { bytes: reader.remaining_buffer(), offset: reader.original_position(), features: reader.features().bits() }
+    }
+
+    /// A proved reader of the bytes.
+    #[inline(always)]
+    pub(crate) fn reader(&self) -> base::BinaryReader<'a> {
+        base::BinaryReader::new_features(self.bytes, self.offset, base::WasmFeatures::from_bits_retain(self.features))
+    }
+
     /// Its offsets.
     pub(crate) fn range(&self) -> Range<u64> {
         self.offset..self.offset + self.bytes.len() as u64
@@ -30,15 +44,9 @@ impl<'a> Window<'a> {
         self.after((offset - self.offset) as usize)
     }
 
-    /// A part of it.
-    pub(crate) fn part(&self, span: Span) -> Self {
-        let rest = self.after(span.at);
-        Window { bytes: &rest.bytes[..span.size], ..rest }
-    }
-
-    /// A string in it, which the library has found to be UTF-8.
-    pub(crate) fn text(&self, span: Span) -> &'a str {
-        core::str::from_utf8(self.part(span).bytes).unwrap_or_default()
+    /// Its first bytes, as many as this.
+    pub(crate) fn front(&self, size: usize) -> Self {
+        Window { bytes: &self.bytes[..size], ..*self }
     }
 }
 
@@ -154,18 +162,18 @@ impl<'a, T> SectionLimited<'a, T> {
         Ok(SectionLimited { whole, rest: reader.rest, count, item: PhantomData })
     }
 
-    /// A section whose count the library has read: its items begin at this offset.
-    pub(crate) fn counted(section: Window<'a>, items: u64, count: u32) -> Self {
-        SectionLimited { whole: section.range(), rest: section.from(items), count, item: PhantomData }
+    /// The section of a frame, whose count was read.
+    #[inline(always)]
+    pub(crate) fn counted(frame: Frame<'a>) -> Self {
+        let (whole, count) = (frame.range(), frame.count());
+        SectionLimited { whole, rest: Window::of(&frame.into_reader()), count, item: PhantomData }
     }
 
-    /// A list inside an item: this many items after their count.
-    pub(crate) fn list(window: Window<'a>, items: Span, count: u32) -> Self {
-        let rest = window.part(items);
-        // No byte before a count has its top bit set, and of the count itself all but the last have.
-        let before = &window.bytes[..items.at.saturating_sub(1)];
-        let size = 1 + before.iter().rev().take_while(|byte| **byte >= 128).count() as u64;
-        SectionLimited { whole: rest.offset - size..rest.range().end, rest, count, item: PhantomData }
+    /// The list inside an item that the proved sources have read of these bytes.
+    pub(crate) fn inside<P>(bytes: Window<'a>, list: &base::SectionLimited<'a, P>) -> Self {
+        let (whole, items) = (list.range(), bytes.from(list.original_position()));
+        let rest = items.front((whole.end - items.offset) as usize);
+        SectionLimited { whole, rest, count: list.count(), item: PhantomData }
     }
 
     /// Returns the announced number of items.

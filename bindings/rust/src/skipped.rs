@@ -1,9 +1,7 @@
 //! Parts that a parser skipped.
 use core::ops::Range;
 
-use crate::codes::event_kind;
-use crate::library::{Event, Span};
-use crate::section::Window;
+use crate::proved::frames;
 
 /// A section or body that [`Parser::skip_part`](crate::Parser::skip_part) skipped.
 #[derive(Clone, Debug, PartialEq, Eq)]
@@ -16,6 +14,7 @@ pub struct SkippedPart<'a> {
 
 /// The first fields of a section or body that was skipped.
 #[derive(Clone, Copy, Debug, PartialEq, Eq)]
+#[non_exhaustive]
 pub enum PartHead<'a> {
     /// A custom section.
     Custom {
@@ -40,18 +39,15 @@ pub enum PartHead<'a> {
     Body,
 }
 
-/// The part of an event, of which these bytes are the first ones. An event that asks for more input is none.
-pub(crate) fn skipped_part<'a>(held: Window<'a>, event: &Event) -> Option<SkippedPart<'a>> {
-    let id = event.id as u8;
-    let head = match event.kind {
-        event_kind::SECTION => PartHead::Items { id, count: event.count },
-        event_kind::BODY => PartHead::Body,
-        event_kind::CUSTOM => {
-            let at = (event.data_offset - held.offset) as usize - event.name_size;
-            PartHead::Custom { name: held.text(Span { at, size: event.name_size }), data_offset: event.data_offset }
-        }
-        event_kind::UNKNOWN => PartHead::Unknown { id },
-        _ => return None,
-    };
-    Some(SkippedPart { range: event.start..event.end, head })
+impl<'a> SkippedPart<'a> {
+    /// The part that the proved sources skipped.
+    pub(crate) fn of(part: frames::SkippedPart<'a>) -> Self {
+        let head = match part.head {
+            frames::PartHead::Custom { name, data_offset } => PartHead::Custom { name, data_offset },
+            frames::PartHead::Items { id, count } => PartHead::Items { id, count },
+            frames::PartHead::Unknown { id } => PartHead::Unknown { id },
+            frames::PartHead::Body => PartHead::Body,
+        };
+        SkippedPart { range: part.range, head }
+    }
 }

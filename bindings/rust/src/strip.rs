@@ -1,5 +1,6 @@
 //! Streams without their custom sections.
-use crate::{Error, Result, library};
+use crate::proved::edits::{Keep, strip_to_front};
+use crate::{Error, Result};
 
 /// Removes the custom sections of a complete stream in place, and returns the remaining bytes.
 ///
@@ -19,6 +20,6 @@ use crate::{Error, Result, library};
 /// # Ok::<(), pulleynavy::Error>(())
 /// ```
 pub fn strip(bytes: &mut [u8], keep_names: bool) -> Result<&mut [u8]> {
-    let size = library::strip(bytes, keep_names).map_err(Error::reported)?;
+    let size = strip_to_front(bytes, Keep::names(keep_names)).map_err(Error::of)?;
     Ok(&mut bytes[..size])
 }

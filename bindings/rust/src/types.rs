@@ -1,6 +1,7 @@
 //! Value types, reference types and heap types.
-use crate::codes::{heap_kind, type_kind};
-use crate::{BinaryReader, FromReader, Result, library};
+use crate::proved::base::FromReader as _;
+use crate::proved::items;
+use crate::{BinaryReader, FromReader, Result};
 use core::fmt;
 
 /// The type of a value: a number, a vector or a reference.
@@ -106,24 +107,14 @@ pub struct RefType {
     heap: HeapType,
 }
 
-/// The abstract heap types. Of each: the constants of its nullable reference and of the other one, its name, the short form of the nullable
-/// reference, and its name in the C library.
+/// The abstract heap types. Of each: the constants of its nullable reference and of the other one, its name, and the short form of the nullable
+/// reference.
 macro_rules! abstract_types {
-    ($($(#[$doc:meta])* $name:ident $constant:ident $nullable:ident $other:ident $text:literal $short:literal $(= $code:ident)?,)*) => {
+    ($($(#[$doc:meta])* $name:ident $constant:ident $nullable:ident $other:ident $text:literal $short:literal,)*) => {
         /// A heap type that is not defined in a module.
         #[derive(Clone, Copy, Debug, PartialEq, Eq, Hash, PartialOrd, Ord)]
         pub enum AbstractHeapType {
             $($(#[$doc])* $name,)*
-        }
-
-        impl AbstractHeapType {
-            /// The type with this number in the C library.
-            fn of(number: u32) -> Option<Self> {
-                Some(match number {
-                    $($(heap_kind::$code => AbstractHeapType::$name,)?)*
-                    _ => return None,
-                })
-            }
         }
 
         impl HeapType {
@@ -160,32 +151,31 @@ macro_rules! abstract_types {
     };
 }
 
-// Continuations have no number in the library, which does not read them.
 abstract_types! {
     /// Any function.
-    Func FUNC FUNCREF FUNC "func" "funcref" = FUNC,
+    Func FUNC FUNCREF FUNC "func" "funcref",
     /// Any value of the host.
-    Extern EXTERN EXTERNREF EXTERN "extern" "externref" = EXTERN,
+    Extern EXTERN EXTERNREF EXTERN "extern" "externref",
     /// Any value of the module.
-    Any ANY ANYREF ANY "any" "anyref" = ANY,
+    Any ANY ANYREF ANY "any" "anyref",
     /// No value: the bottom type below `Any`.
-    None NONE NULLREF NONE "none" "nullref" = NONE,
+    None NONE NULLREF NONE "none" "nullref",
     /// No value: the bottom type below `Extern`.
-    NoExtern NOEXTERN NULLEXTERNREF NOEXTERN "noextern" "nullexternref" = NO_EXTERN,
+    NoExtern NOEXTERN NULLEXTERNREF NOEXTERN "noextern" "nullexternref",
     /// No value: the bottom type below `Func`.
-    NoFunc NOFUNC NULLFUNCREF NOFUNC "nofunc" "nullfuncref" = NO_FUNC,
+    NoFunc NOFUNC NULLFUNCREF NOFUNC "nofunc" "nullfuncref",
     /// Any value that can be compared.
-    Eq EQ EQREF EQ "eq" "eqref" = EQ,
+    Eq EQ EQREF EQ "eq" "eqref",
     /// Any structure.
-    Struct STRUCT STRUCTREF STRUCT "struct" "structref" = STRUCT,
+    Struct STRUCT STRUCTREF STRUCT "struct" "structref",
     /// Any array.
-    Array ARRAY ARRAYREF ARRAY "array" "arrayref" = ARRAY,
+    Array ARRAY ARRAYREF ARRAY "array" "arrayref",
     /// An integer of 31 bits.
-    I31 I31 I31REF I31 "i31" "i31ref" = I31,
+    I31 I31 I31REF I31 "i31" "i31ref",
     /// An exception.
-    Exn EXN EXNREF EXN "exn" "exnref" = EXN,
+    Exn EXN EXNREF EXN "exn" "exnref",
     /// No value: the bottom type below `Exn`.
-    NoExn NOEXN NULLEXNREF NOEXN "noexn" "nullexnref" = NO_EXN,
+    NoExn NOEXN NULLEXNREF NOEXN "noexn" "nullexnref",
     /// A continuation. This crate never returns it.
     Cont CONT CONTREF CONT "cont" "contref",
     /// No value: the bottom type below `Cont`. This crate never returns it.
@@ -491,69 +481,91 @@ pub(crate) fn type_index(index: u32) -> PackedIndex {
     PackedIndex(index)
 }
 
-/// The heap type with this number in the library. The index is that of a type that a module defines.
-pub(crate) fn heap_type(number: u32, index: u32) -> HeapType {
-    let concrete = HeapType::Concrete(UnpackedIndex::Module(index));
-    AbstractHeapType::of(number).map_or(concrete, |ty| HeapType::Abstract { shared: false, ty })
+impl HeapType {
+    /// The heap type that the proved sources have.
+    #[inline(always)]
+    pub(crate) fn of(ty: items::HeapType) -> Self {
+        match ty {
+            items::HeapType::Func => HeapType::FUNC,
+            items::HeapType::Extern => HeapType::EXTERN,
+            items::HeapType::Any => HeapType::ANY,
+            items::HeapType::Eq => HeapType::EQ,
+            items::HeapType::Struct => HeapType::STRUCT,
+            items::HeapType::Array => HeapType::ARRAY,
+            items::HeapType::I31 => HeapType::I31,
+            items::HeapType::Exn => HeapType::EXN,
+            items::HeapType::NoExn => HeapType::NOEXN,
+            items::HeapType::None => HeapType::NONE,
+            items::HeapType::NoExtern => HeapType::NOEXTERN,
+            items::HeapType::NoFunc => HeapType::NOFUNC,
+            items::HeapType::Concrete(index) => HeapType::Concrete(UnpackedIndex::Module(index)),
+        }
+    }
 }
 
-pub(crate) fn ref_type(ty: library::Type) -> RefType {
-    RefType { nullable: ty.nullable != 0, heap: heap_type(ty.heap, ty.index) }
+impl RefType {
+    /// The reference type that the proved sources have.
+    #[inline(always)]
+    pub(crate) fn of(ty: items::RefType) -> Self {
+        RefType { nullable: ty.nullable, heap: HeapType::of(ty.heap) }
+    }
 }
 
-pub(crate) fn val_type(ty: library::Type) -> ValType {
-    match ty.kind {
-        type_kind::I32 => ValType::I32,
-        type_kind::I64 => ValType::I64,
-        type_kind::F32 => ValType::F32,
-        type_kind::F64 => ValType::F64,
-        type_kind::V128 => ValType::V128,
-        _ => ValType::Ref(ref_type(ty)),
+impl ValType {
+    /// The type that the proved sources have.
+    #[inline(always)]
+    pub(crate) fn of(ty: items::ValType) -> Self {
+        match ty {
+            items::ValType::I32 => ValType::I32,
+            items::ValType::I64 => ValType::I64,
+            items::ValType::F32 => ValType::F32,
+            items::ValType::F64 => ValType::F64,
+            items::ValType::V128 => ValType::V128,
+            items::ValType::Ref(ty) => ValType::Ref(RefType::of(ty)),
+        }
     }
 }
 
 impl<'a> FromReader<'a> for ValType {
+    #[inline]
     fn from_reader(reader: &mut BinaryReader<'a>) -> Result<Self> {
-        let (_, plain) = reader.item(library::value_type)?;
-        Ok(val_type(plain.ty))
+        reader.by(items::ValType::from_reader).map(ValType::of)
     }
 }
 
 impl<'a> FromReader<'a> for RefType {
     fn from_reader(reader: &mut BinaryReader<'a>) -> Result<Self> {
-        let (_, plain) = reader.item(library::reference_type)?;
-        Ok(ref_type(plain.ty))
+        reader.by(items::RefType::from_reader).map(RefType::of)
     }
 }
 
 impl<'a> FromReader<'a> for HeapType {
     fn from_reader(reader: &mut BinaryReader<'a>) -> Result<Self> {
-        let (_, plain) = reader.item(library::heap_type)?;
-        Ok(heap_type(plain.ty.heap, plain.ty.index))
+        reader.by(items::HeapType::from_reader).map(HeapType::of)
+    }
+}
+
+impl StorageType {
+    /// The type that the proved sources have.
+    fn of(ty: items::StorageType) -> Self {
+        match ty {
+            items::StorageType::I8 => StorageType::I8,
+            items::StorageType::I16 => StorageType::I16,
+            items::StorageType::Val(ty) => StorageType::Val(ValType::of(ty)),
+        }
     }
 }
 
 impl<'a> FromReader<'a> for StorageType {
     fn from_reader(reader: &mut BinaryReader<'a>) -> Result<Self> {
-        let packed = match reader.peek()? {
-            0x78 => StorageType::I8,
-            0x77 => StorageType::I16,
-            _ => return reader.read().map(StorageType::Val),
-        };
-        reader.pass(1);
-        Ok(packed)
+        reader.by(items::StorageType::from_reader).map(StorageType::of)
     }
 }
 
 impl<'a> FromReader<'a> for FieldType {
     fn from_reader(reader: &mut BinaryReader<'a>) -> Result<Self> {
-        let (_, plain) = reader.item(library::field_type)?;
-        let element_type = match plain.ty.kind {
-            type_kind::I8 => StorageType::I8,
-            type_kind::I16 => StorageType::I16,
-            _ => StorageType::Val(val_type(plain.ty)),
-        };
-        Ok(FieldType { element_type, mutable: plain.is_mutable != 0 })
+        let items::FieldType { storage, mutable } = reader.by(items::FieldType::from_reader)?;
+        Ok(FieldType { element_type: StorageType::of(storage), mutable })
     }
 }
 

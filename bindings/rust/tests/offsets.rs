@@ -101,30 +101,16 @@ fn plain(reader: BinaryReader<'_>) -> Result<String> {
     Ok(String::new())
 }
 
-/// A sequence of numbers that look random.
-struct Random(u64);
-
 impl Random {
-    fn below(&mut self, bound: u64) -> u64 {
-        self.0 ^= self.0 << 13;
-        self.0 ^= self.0 >> 7;
-        self.0 ^= self.0 << 17;
-        (self.0 >> 11) % bound
-    }
-
     /// Bytes that begin items often, and others.
     fn byte(&mut self) -> u8 {
         const OFTEN: [u8; 24] = [0, 0, 1, 1, 2, 3, 4, 5, 0x0b, 0x41, 0x40, 0x60, 0x5f, 0x4e, 0x50, 0x63, 0x64, 0x70, 0x7e, 0x7f, 0x80, 0xff, 0xff, 0x61];
-        if self.below(4) == 0 { self.below(256) as u8 } else { OFTEN[self.below(OFTEN.len() as u64) as usize] }
+        if self.below(4) == 0 { self.below(256) as u8 } else { OFTEN[self.below(OFTEN.len())] }
     }
 
     fn bytes(&mut self) -> Vec<u8> {
         (0..self.below(24)).map(|_| self.byte()).collect()
     }
-}
-
-fn inputs() -> u64 {
-    std::env::var("PULLEYNAVY_INPUTS").map_or(4_000, |count| count.parse().unwrap())
 }
 
 /// Reads bytes as every kind of item and section. They end `gap` bytes before the greatest offset.
@@ -157,9 +143,9 @@ fn parse(bytes: &[u8], gap: u64) {
 
 #[test]
 fn random_inputs_near_the_greatest_offset() {
-    let mut random = Random(0x9e37_79b9_7f4a_7c15);
-    for number in 0..inputs() {
-        let (bytes, gap) = (random.bytes(), random.below(4));
+    let mut random = Random::new();
+    for number in 0..inputs(4_000) {
+        let (bytes, gap) = (random.bytes(), random.below(4) as u64);
         let features = if number % 8 == 0 { WasmFeatures::empty() } else { WasmFeatures::all() };
         read(&bytes, gap, features);
         parse(&[b"\0asm\x01\0\0\0", &bytes[..]].concat(), gap);

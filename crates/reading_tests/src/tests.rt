@@ -9,7 +9,7 @@ mod items;
 use std::alloc::Global;
 use std::fmt::Debug;
 use std::process::Abort;
-use wasm_base::{BinaryReader, Error, Fault, FromReader, FromReaderIn, Result, Subsection, fits};
+use wasm_base::{BinaryReader, FromReader, FromReaderIn, Subsection, fits};
 
 // Asserts that a value is the expected one.
 fn same<T: PartialEq + Debug + Drop>(rt: &impl Abort, found: T, wanted: T) {
@@ -78,25 +78,6 @@ fn prints_begun<'a, T: Subsection<'a> + Debug>(
     reader.read_bytes(2).expect(rt, "a fault");
     let found = T::from_reader(alloc, id, reader).expect(rt, "a fault");
     is_printed(rt, alloc, &found, text);
-}
-
-// Whether a call succeeded. If it did, the value is printed as this text, and otherwise the error is `OutOfMemory`.
-fn prints_unless_memory<T: Debug + Drop>(
-    rt: &impl Abort,
-    alloc: Global,
-    found: Result<T>,
-    text: &str,
-) -> bool {
-    match found {
-        Ok(value) => {
-            is_printed(rt, alloc, &value, text);
-            true
-        }
-        Err(error) => {
-            same(rt, error, Error::new(Fault::OutOfMemory, 0));
-            false
-        }
-    }
 }
 
 // What an iterator returns when it is polled.

@@ -5,9 +5,10 @@
     tools/try c --archive A   the archive A, in place of those that are built here; more than one may be given
 
 Each stream is listed in pieces of 1, 7, 100 and 65,536 bytes and whole, with its items, stripped and edited; every repeated byte is tried as a parser.
+Its parts are skipped in random orders, and edits have bytes around their results that must not change.
 Random calls of all functions, in any order that the header allows, return for a minute what they return in plain order (tools/lib/sequences.c).
 The package for Python also reads 20,000 streams with changed bytes, and must not make memory grow.
-The examples of the header run too, and Doxygen reads it without a warning. What a machine lacks (a compiler, valgrind, cargo) is said in one line, and the rest is done.
+The examples of the header run too, and Doxygen reads it without a warning. What a machine lacks (a compiler, valgrind) is said in one line, and the rest is done.
 """
 import contextlib
 import itertools
@@ -20,16 +21,17 @@ import sys
 import tempfile
 from concurrent.futures import ThreadPoolExecutor
 
-import cargo
 import common
 import modelled
 import programs
 import sequences as tables
+import suites
 from modules import mutants
 
 CRATE = os.path.join(common.TOP, "crates", "wasm_c")
 MUTANTS = 20_000
-# How long random calls are tried.
+# How many orders of skips are tried of each stream, and how long random calls are tried.
+ORDERS = 100
 SECONDS = 60
 PIECES = (1, 7, 100, 65536)
 # How many items a call stores, in turn.
@@ -40,7 +42,7 @@ WARNINGS = ["-Wall", "-Wextra", "-Wpedantic", "-Werror"]
 CHECKED = ["-g", "-O1", "-fsanitize=address,undefined", "-fno-sanitize-recover=all"]
 # The examples, with the standards that each is built by.
 PROGRAMS = {"list.c": ("c99", "c11"), "whole.cpp": ("c++11", "c++17")}
-PROGRAMS.update({name: ("c99",) for name in ("items.c", "imports.c", "calls.c", "patterns.c", "strip.c", "edit.c", "fuzz.c", "names.c")})
+PROGRAMS.update({name: ("c99",) for name in ("items.c", "imports.c", "calls.c", "patterns.c", "strip.c", "edit.c", "fuzz.c", "names.c", "guards.c", "skips.c")})
 
 
 def run(command, stream=b"", **options):
@@ -204,6 +206,18 @@ def imports(built, streams):
     return each(built["imports"], streams, wanted_of, lambda number, _: [str(BATCHES[number % len(BATCHES)])])
 
 
+def called(built, streams):
+    """Each stream with skips in any order, and with bytes that guard the results of edits."""
+    def call(row):
+        number, (stream, _) = row
+        for name, words in (("skips", [str(ORDERS)]), ("guards", modelled.edit(number))):
+            paths = built[name]
+            common.must([paths[number % len(paths)], *words], stream=stream)
+
+    with ThreadPoolExecutor(4) as pool:
+        list(pool.map(call, enumerate(streams)))
+
+
 def patterns(built, streams):
     """Worked calls, every repeated byte as a parser, and each stream whole and in chunks."""
     for path in built["calls"]:
@@ -221,6 +235,7 @@ COMPARISONS = (compared, stripped, edited, names, imports)
 def all_differences(built, streams):
     """How the examples differ from the models; one stream in ten is tried as a pattern."""
     patterns(built, streams[::10])
+    called(built, streams[::10])
     return [text for test in COMPARISONS for text in test(built, streams)]
 
 
@@ -302,34 +317,6 @@ def with_doxygen(folder):
 # ---- the bindings
 
 
-# Clippy's lints are errors, and a result that nothing else comes from has to be used.
-CLIPPY = ["--", "-D", "warnings", "-D", "clippy::must_use_candidate"]
-
-
-def with_cargo(folder, archive, is_first):
-    """The tests and the examples of the crate for Rust, with its features and without, and programs that call it wasmparser, with warnings as errors.
-    Lints don't depend on the archive."""
-    if not cargo.found():
-        return
-    place = os.path.join(folder, "archive")
-    os.makedirs(place, exist_ok=True)
-    shutil.copy(archive, os.path.join(place, "libwasm_c.a"))
-    settings = {"PULLEYNAVY_LIB": place, "CARGO_TARGET_DIR": os.path.join(folder, "target"), "RUSTFLAGS": "-D warnings"}
-    crate = os.path.join(folder, "rust")
-    cargo.offline(folder)
-    shutil.rmtree(crate, ignore_errors=True)
-    shutil.copytree(os.path.join(common.TOP, "bindings", "rust"), crate, ignore=shutil.ignore_patterns("Cargo.lock", "target"))
-    settings["PULLEYNAVY_GOLDEN"] = common.GOLDEN
-    with_serde = os.path.join(crate, "examples", "json")
-    clippy = is_first and (shutil.which("cargo-clippy") or common.skip("missing: clippy"))
-    for place in (crate, with_serde) if cargo.with_debian(with_serde) else (crate,):
-        for features in ([], ["--no-default-features"]):
-            common.must(["cargo", "test", "--offline", "--quiet", *features], folder=place, env=settings)
-            if clippy:
-                common.must(["cargo", "clippy", "--offline", "--quiet", "--all-targets", *features, *CLIPPY], folder=place, env=settings)
-    common.must(["cargo", "build", "--offline", "--quiet"], folder=os.path.join(crate, "examples", "programs"), env=settings)
-
-
 def with_python(folder, archive, streams, changed, is_first):
     """The module for Python over a shared library, which is made of the archive. `changed` are streams that only it reads. Types don't depend on it."""
     if not common.found("cc"):
@@ -339,7 +326,7 @@ def with_python(folder, archive, streams, changed, is_first):
     os.environ["PULLEYNAVY_LIB"] = library
     package = os.path.join(common.TOP, "bindings", "python")
     os.environ["PULLEYNAVY_STREAMS"] = modelled.write(os.path.join(folder, "streams.jsonl"), streams + changed)
-    common.must([sys.executable, "-B", "-m", "unittest", "discover", "-q", "-s", "tests", "-t", "."], folder=package)
+    suites.passed_in_python(common.must([sys.executable, "-B", "-m", "unittest", "discover", "-q", "-s", "tests", "-t", "."], folder=package))
     if is_first and common.found("mypy"):
         common.must(["mypy", "--strict", "--cache-dir", os.path.join(folder, "mypy"), "pulleynavy", "tests"], folder=package)
 
@@ -357,11 +344,11 @@ def main():
         header_examples(folder, made)
         with_doxygen(folder)
         patterns(built, streams)
+        called(built, streams)
         sequences(folder, made, streams, given.seed)
         differ = [text for test in (*COMPARISONS, under_valgrind) for text in test(built, streams)]
         changed = [(stream, modelled.listed(stream)) for stream in mutants(random.Random(given.seed), [stream for stream, _ in common.golden()], MUTANTS)]
         for number, archive in enumerate(made.values()):
-            with_cargo(folder, archive, number == 0)
             with_python(folder, archive, streams, changed[number :: len(made)], number == 0)
     count = sum(len(paths) for paths in built.values())
     return common.tell(differ, "%d programs, %d streams, %d differ (seed %d)" % (count, len(streams), len(differ), given.seed))

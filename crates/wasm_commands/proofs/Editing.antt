@@ -2,7 +2,6 @@
 use Rattle.std.proofs.Common.{◌≡◌, ◌==◌, inl, inr, Vec, Global, ℕ, Bool, true, false, List, ◌++◌, Option, Some, None, Result, Ok, Err, ap}
 use Rattle.std.proofs.Common.{refl, subst, sym}
 use Rattle.std.proofs.Common.{length, take, take_all, le_refl, All, IsTrue, ◌↔◌, [], ◌∷◌}
-use Rattle.std.proofs.lemmas.List.Elements.{All-cons, All-nil}
 use Rattle.std.specs.Io.KnownBytes.{Appends, Consumes, Keeps}
 use Rattle.std.proofs.KnownBytes.{Appends-kept, Appends-trans}
 use Rattle.wasm_base.specs.FaultAt.{fault_at}
@@ -10,8 +9,6 @@ use Rattle.wasm_base.specs.declared.error.Error.{Error}
 use Rattle.wasm_base.specs.declared.fault.Fault.TheVariants.{OutOfMemory}
 use Rattle.wasm_edits.specs.EditStream.{EditsParts, EditsSource, EndsEdit, WritesNew, ended_by}
 use Rattle.wasm_edits.specs.Edits.{CanBeMade, edited_bytes, new_bytes}
-use Rattle.wasm_edits.specs.Encoded.{Fits}
-use Rattle.wasm_edits.specs.declared.encoding.NewSection.{NewSection}
 use Rattle.wasm_edits.specs.declared.edits.Edit.{Edit}
 use Rattle.wasm_edits.specs.Stripped.{EndsWithFault, RefusesToStrip}
 use Rattle.wasm_grammar.specs.Accepted.{IsAccepted}
@@ -26,7 +23,6 @@ use Rattle.wasm_console.specs.Devices.{IsUntouched}
 use Rattle.wasm_commands.specs.EditsTwice.{EditsTwice, GoesOnAs}
 use Rattle.wasm_commands.specs.Rewrites.{EndsBytes, EditsBy, EditsFile, EditsOriginal, EndsFile, IsWritten, WritesAll, input_device}
 use Rattle.wasm_commands.specs.Rewrites.{is_whole}
-use Rattle.wasm_commands.specs.RewriteCommands.{edit_that_sets}
 use Rattle.wasm_commands.specs.declared.reasons.Cause.{Cause}
 use Rattle.wasm_commands.specs.declared.rewriting.Original.{Original}
 use Rattle.wasm_commands.specs.declared.system.System.{Ghosts as SystemOf}
@@ -135,8 +131,7 @@ module _ {S I O : Type 0} (calls : SystemOf S I O) (sources : SourceOf I) (sinks
 pub zero_if_whole : (name target : List ℕ) (edited : Result (Result Ended ListError) Cause) (errors : Device) (status : ℕ)
     → EndsFile name target edited errors status → (status == 0) ≡ is_whole edited
 zero_if_whole name target (Ok (Ok End)) errors status e = rw e.0 refl
-zero_if_whole name target (Ok (Ok (Fault f))) errors status (inl told) = rw told.answers refl
-zero_if_whole name target (Ok (Ok (Fault f))) errors status (inr up) = rw up.answers refl
+zero_if_whole name target (Ok (Ok (Fault f))) errors status e = rw e.answers refl
 zero_if_whole name target (Ok (Err Input)) errors status e = rw e.gives_up.answers refl
 zero_if_whole name target (Ok (Err Output)) errors status e = rw e.gives_up.answers refl
 zero_if_whole name target (Ok (Err Memory)) errors status e = rw e.gives_up.answers refl
@@ -156,19 +151,7 @@ all_but_flushed a b c bytes w k = (
   subst (Appends a c) (sym (take_all (length bytes) bytes (le_refl (length bytes)))) (Appends-kept a b c bytes w k),
 )
 
--- ---- a section that is set
-
-can_be_set : (is_there : Bool) (new : NewSection) → Fits new → CanBeMade (edit_that_sets is_there new)
-can_be_set true new f = f
-can_be_set false new f = f
-
--- An edit that cannot be made has a section that does not fit.
-pub not_fitting : (is_there : Bool) (new : NewSection) (e : Edit) → e ≡ edit_that_sets is_there new → (fits : Bool)
-    → IsTrue fits ↔ All CanBeMade (e ∷ []) → fits ≡ false → ¬ Fits new
-not_fitting is_there new e same true i is = absurd cc
-not_fitting is_there new e same false i is = λ f.
-    let t : false ≡ true =
-    i.1 (All-cons CanBeMade e [] (subst CanBeMade (sym same) (can_be_set is_there new f)) (All-nil CanBeMade)) in cc
+-- ---- edits that cannot be made
 
 pub not_all_fit : (edits : List Edit) (fits : Bool) → IsTrue fits ↔ All CanBeMade edits → fits ≡ false → ¬ All CanBeMade edits
 not_all_fit edits true i is = absurd cc

@@ -25,7 +25,7 @@ one_more name [] e is = rw is refl
 one_more name (x ∷ events) e is =
     head_counted name x events (events ++ e ∷ []) 1 (one_more name events e is) (has_name name x.report) refl
 
-none_more : (name : List ℕ) (events : List Event) (e : Event) → has_name name e.report ≡ false
+pub none_more : (name : List ℕ) (events : List Event) (e : Event) → has_name name e.report ≡ false
     → named_count name (events ++ e ∷ []) ≡ named_count name events + 0
 none_more name [] e is = rw is refl
 none_more name (x ∷ events) e is =

@@ -3,10 +3,11 @@ pub mod Choosing
 pub mod Coloring
 pub mod Editing
 pub mod Finding
-pub mod Headings
+pub mod FirstNamed
 pub mod Parsing
 pub mod Running
 pub mod Refusing
+pub mod Setting
 pub mod Showing
 pub mod Stopping
 pub mod Turns

@@ -1,5 +1,6 @@
 -- How the arguments of a command are read: options and operands in any order, as GNU programs read them.
-use Rattle.std.specs.Prelude.{ℕ, Bool, true, false, ◌==◌, ◌&&◌, List, [], ◌∷◌, codes, bytes_eq, map, nat_eq, nat_lt}
+use Rattle.std.specs.Prelude.{ℕ, Bool, true, false, ◌==◌, ◌&&◌, List, [], ◌∷◌, codes, bytes_eq, drop, map, nat_eq}
+use Rattle.std.specs.Prelude.{nat_lt}
 use Rattle.std.specs.Prelude.{length, flat_map, Option, Some, None, Result, Ok, Err, if◌then◌else◌}
 use Rattle.std.specs.List.{after_first, before_first, list_any, position_or_len}
 use Rattle.wasm_commands.specs.Options.{accepts_option, is_same, option_named, takes_of}
@@ -34,16 +35,24 @@ is_long (first ∷ (second ∷ more)) = nat_eq first 45 && nat_eq second 45
 abbrev pub is_equals : ℕ → Bool
 is_equals b = b == 61
 
+-- whether an argument is a short option with its value attached: `-o`, the only one that takes a value, and more
+abbrev pub is_joined : List ℕ → Bool
+is_joined [] = false
+is_joined (first ∷ []) = false
+is_joined (first ∷ (second ∷ [])) = false
+is_joined (first ∷ (second ∷ (third ∷ more))) = nat_eq first 45 && nat_eq second 111
+
 -- the name of an option
 abbrev pub name_of : List ℕ → List ℕ
-name_of word = if is_long word then before_first is_equals word else word
+name_of word =
+    if is_long word then before_first is_equals word else if is_joined word then codes "-o" else word
 
--- the value attached to it, which is after the first `=`: only a long option has one
+-- the value attached to it, which is after the first `=` of a long option, and after the letter of a short one
 abbrev pub attached_of : List ℕ → Option (List ℕ)
 attached_of word =
     if is_long word
     then (if nat_lt (position_or_len is_equals word) (length word) then Some (after_first is_equals word) else None)
-    else None
+    else if is_joined word then Some (drop 2 word) else None
 
 -- An option that was read, by the value that is attached to it, and the argument after it; and whether that is its
 -- value.

@@ -6,6 +6,7 @@ pub mod Commands
 pub mod DumpRuns
 pub mod EditsTwice
 pub mod Finding
+pub mod FirstNamed
 pub mod Formats
 pub mod Messages
 pub mod Options

@@ -1,8 +1,13 @@
 -- What the program says on standard error.
-use Rattle.std.specs.Prelude.{ℕ, List, [], ◌++◌, codes, bytes_eq, Option, Some, None, Result, Ok, Err}
+use Rattle.std.specs.Prelude.{◌≡◌, ℕ, List, [], ◌++◌, codes, bytes_eq, Option, Some, None, Result, Ok, Err}
 use Rattle.std.specs.Prelude.{if◌then◌else◌}
 use Rattle.std.specs.declared.io.ErrorKind.TheVariants.{Other}
+use Rattle.wasm_base.specs.FaultAt.{FaultAt, fault_at}
+use Rattle.wasm_base.specs.Message.{message_of, number_text}
+use Rattle.wasm_base.specs.declared.error.Error.{Error}
 use Rattle.wasm_text.specs.Calls.{Device}
+use Rattle.wasm_text.specs.Offsets.{offset_text}
+use Rattle.wasm_text.specs.declared.digits.Base.TheVariants.{Hexadecimal}
 use Rattle.wasm_text.specs.Messages.{Says}
 use Rattle.wasm_text.specs.declared.devices.ListError.{ListError}
 use Rattle.wasm_text.specs.declared.devices.ListError.TheVariants.{Input, Output, Memory}
@@ -38,6 +43,21 @@ abbrev pub failure_text : (name : List ℕ) → ListError → Causes → List �
 failure_text name Input causes = file_text (name_shown name) (reason_if_any causes.input)
 failure_text name Output causes = file_text (codes "standard output") (reason_if_any causes.output)
 failure_text name Memory causes = codes "pulleynavy: out of memory\n"
+
+-- a fault of a file, by its parts
+abbrev pub fault_line : (name offset message after : List ℕ) → List ℕ
+fault_line name offset message after = codes "pulleynavy: " ++ (name ++ (codes ": " ++ (offset ++ (codes ": "
+    ++ (message ++ (after ++ codes "\n"))))))
+
+-- the fault at which a file stops: its offset in hexadecimal, its message and its number
+abbrev pub fault_text : (name : List ℕ) → FaultAt → List ℕ
+fault_text name f =
+    fault_line (name_shown name) (offset_text Hexadecimal f.offset) (message_of f.fault) (number_text f.number)
+
+-- The file stops at this fault, and that was said.
+pub record StopsAt (name : List ℕ) (e : Error) (errors : Device) (status : ℕ) : Type 0 where
+  pub answers : status ≡ 1
+  pub says : Says errors (fault_text name (fault_at e))
 
 -- what is said of a run over a stream: nothing, or why it failed
 abbrev pub Reports : (name : List ℕ) → Result Ended ListError → Causes → (errors : Device) → Type 0
@@ -78,6 +98,15 @@ unknown_option_text word = codes "pulleynavy: unknown option '" ++ (word ++ code
 abbrev pub no_command_text : List ℕ
 no_command_text = codes "usage: pulleynavy COMMAND [OPTION]... [FILE]...\nTry 'pulleynavy --help'.\n"
 
+-- a file that would have to be read twice
+abbrev pub names_text : (name : List ℕ) → List ℕ
+names_text name = codes "pulleynavy dump: --names reads each file twice, and " ++ (name_shown name
+    ++ codes " can't be: name regular files\n")
+
+-- standard input, which more than one operand of `add` names
+abbrev pub input_twice_text : List ℕ
+input_twice_text = about_word verb.Add (codes "'") (codes "-") (codes "' can be read only once")
+
 -- what is wrong with the arguments
 abbrev pub complaint_text : Complaint → List ℕ
 complaint_text (complaint.Argument verb refusal) = refusal_text verb refusal
@@ -93,6 +122,6 @@ complaint_text (complaint.TooLarge verb word) =
 complaint_text (complaint.UnknownCommand word) = unknown_command_text word.now
 complaint_text (complaint.UnknownOption word) = unknown_option_text word.now
 complaint_text complaint.NoCommand = no_command_text
-complaint_text complaint.NamesOfInput =
-    codes "pulleynavy dump: --names reads each file twice, and standard input can't be: name files\n"
+complaint_text (complaint.NamesOf name) = names_text name.now
+complaint_text complaint.InputTwice = input_twice_text
 complaint_text complaint.NotUtf8 = codes "pulleynavy: an argument is not valid UTF-8\n"

@@ -1,5 +1,6 @@
 -- What the commands that write a stream do, by their arguments.
-use Rattle.std.specs.Prelude.{◌≡◌, ◌⊎◌, ℕ, ◌+◌, ◌<◌, ◌^◌, Bool, true, false, ◌||◌, List, [], ◌∷◌, ◌++◌, codes, bytes_eq}
+use Rattle.std.specs.Prelude.{◌≡◌, ◌⊎◌, ℕ, ◌+◌, ◌<◌, ◌^◌, Bool, true, false, ◌==◌, ◌||◌, List, [], ◌∷◌, ◌++◌, codes}
+use Rattle.std.specs.Prelude.{bytes_eq}
 use Rattle.std.specs.Prelude.{All, length, nat_lt, Option, Some, None, is_some, map, take, Vec, Result, Ok, Err}
 use Rattle.std.specs.Prelude.{if◌then◌else◌}
 use Rattle.std.specs.Borrow.{Bor}
@@ -14,8 +15,10 @@ use Rattle.wasm_text.specs.Calls.{Device}
 use Rattle.wasm_text.specs.Messages.{Says}
 use Rattle.wasm_text.specs.declared.devices.sink.Sink.{Ghosts as SinkOf}
 use Rattle.wasm_text.specs.declared.devices.source.Source.{Ghosts as SourceOf}
+use Rattle.wasm_edits.specs.Edited.{IsEdited}
 use Rattle.wasm_edits.specs.Edits.{CanBeMade}
 use Rattle.wasm_edits.specs.Encoded.{Fits}
+use Rattle.wasm_edits.specs.Stripped.{EndsWithFault}
 use Rattle.wasm_edits.specs.declared.edits.Edit.{Edit}
 use Rattle.wasm_edits.specs.declared.edits.Edit.TheVariants as edit
 use Rattle.wasm_edits.specs.declared.encoding.NewSection.{NewSection}
@@ -23,10 +26,10 @@ use Rattle.wasm_streams.specs.declared.turns.Ended.{Ended}
 use Rattle.wasm_text.specs.declared.devices.ListError.{ListError}
 use Rattle.wasm_edits.specs.declared.fates.Keep.{Keep}
 use Rattle.wasm_console.specs.Devices.{IsUntouched}
-use Rattle.wasm_console.specs.Strips.{Refuses}
 use Rattle.wasm_commands.specs.ArgumentLists.{Read, has_option, is_equals, last_value, operands_in, values_in}
 use Rattle.wasm_commands.specs.Finding.{FindsSection}
-use Rattle.wasm_commands.specs.Messages.{about_word, command_text, missing_text}
+use Rattle.wasm_commands.specs.FirstNamed.{FindsFirst, ReplacesFirst}
+use Rattle.wasm_commands.specs.Messages.{StopsAt, about_word, command_text, input_twice_text, missing_text}
 use Rattle.wasm_commands.specs.Parsing.{texts}
 use Rattle.wasm_commands.specs.Rewrites.{CannotHold, CannotOpen, ChangesFile, EndsRun, Gave, IsOriginal, WritesBytesTo}
 use Rattle.wasm_commands.specs.Rewrites.{WritesTo}
@@ -38,7 +41,6 @@ use Rattle.wasm_commands.specs.declared.add.Operands.{Operands}
 use Rattle.wasm_commands.specs.declared.options.Flag.TheVariants as option
 use Rattle.wasm_commands.specs.declared.options.Verb.{Verb}
 use Rattle.wasm_commands.specs.declared.options.Verb.TheVariants as verb
-use Rattle.wasm_commands.specs.declared.producers.NewData.{NewData}
 use Rattle.wasm_commands.specs.declared.rewriting.Original.{Original}
 use Rattle.wasm_commands.specs.declared.system.System.{Ghosts as SystemOf}
 
@@ -100,6 +102,17 @@ added_in word = (before_first is_equals word, after_first is_equals word)
 abbrev pub no_addition : (words : List (List ℕ)) → Option (List ℕ)
 no_addition [] = None
 no_addition (word ∷ words) = if is_addition word then no_addition words else Some word
+
+-- whether a file is standard input
+abbrev pub is_input : (file : List ℕ) → Bool
+is_input file = bytes_eq file (codes "-")
+
+-- whether standard input is among the files of these additions twice, or once more if it was asked for already
+abbrev pub is_asked_again : (asked : Bool) → (additions : List (List ℕ × List ℕ)) → Bool
+is_asked_again asked [] = false
+is_asked_again asked (addition ∷ additions) =
+    if is_input addition.1 then (if asked then true else is_asked_again true additions)
+    else is_asked_again asked additions
 
 -- a name and a file, or a name and the data of that file
 abbrev pub parts_of : Addition → List ℕ × List ℕ
@@ -199,10 +212,19 @@ abbrev pub is_field : (field : List ℕ) → Bool
 is_field field = bytes_eq field (codes "language")
     || (bytes_eq field (codes "processed-by") || bytes_eq field (codes "sdk"))
 
--- whether a word is a value of `--set`: it has an `=`, and before that the name of a field
+abbrev pub is_colon : ℕ → Bool
+is_colon b = b == 58
+
+-- the name of what is set: from after the `=` to the next colon
+abbrev pub name_set : (word : List ℕ) → List ℕ
+name_set word = before_first is_colon (after_first is_equals word)
+
+-- whether a word is a value of `--set`: it has an `=`, before that the name of a field, and after it a name
 abbrev pub is_setting : (word : List ℕ) → Bool
 is_setting word =
-    if nat_lt (position_or_len is_equals word) (length word) then is_field (before_first is_equals word) else false
+    if nat_lt (position_or_len is_equals word) (length word)
+    then (if is_field (before_first is_equals word) then nat_lt 0 (length (name_set word)) else false)
+    else false
 
 -- the first word that is none
 abbrev pub no_setting : (words : List (List ℕ)) → Option (List ℕ)
@@ -214,26 +236,10 @@ abbrev pub wrong_setting : {A : Type 0} → Result A (Bor (List ℕ)) → Option
 wrong_setting (Ok settings) = None
 wrong_setting (Err word) = Some word.now
 
--- the edit that sets a section: it is replaced where there is one with its name, and else appended
-abbrev pub edit_that_sets : (is_there : Bool) → NewSection → Edit
-edit_that_sets true new = edit.Replace new
-edit_that_sets false new = edit.Append new
-
--- These bytes are held of the file.
-abbrev pub AreHeld : Option (Vec ℕ Global) → (stream : List ℕ) → Type 0
-AreHeld None stream = ⊥
-AreHeld (Some held) stream = held.items ≡ stream
-
--- a stream that was read into memory
-pub record IsHeldOriginal (name stream : List ℕ) (original : Original) : Type 0 where
-  pub named : original.name.now ≡ name
-  pub held : AreHeld original.held stream
-
--- The first section with producers was found, and new data of it made from the one that is there; or the stream has a
--- fault before it, or the section itself.
-abbrev pub FindsChange : (stream : List ℕ) → Result NewData Error → Type 0
-FindsChange stream (Ok change) =
-    (found : Option Custom) × FindsSection (codes "producers") 0 stream (Ok found) × (change.is_there ≡ is_some found)
+-- The first section with producers was looked for, and new data of it made; or the stream has a fault before it, or the
+-- section itself.
+abbrev pub FindsChange : {A : Type 0} → (stream : List ℕ) → Result A Error → Type 0
+FindsChange stream (Ok new) = (found : Option Custom) × FindsSection (codes "producers") 0 stream (Ok found)
 FindsChange stream (Err e) = FindsSection (codes "producers") 0 stream (Err e)
     ⊎ ((found : Option Custom) × FindsSection (codes "producers") 0 stream (Ok found))
 
@@ -262,7 +268,7 @@ module _ {S I O : Type 0} (calls : SystemOf S I O) (sources : SourceOf I) (sinks
       (place section.reader).rest name (target_in reads) output forwarded errors status
   EndsExtract wanted name (Ok None) status =
       (status ≡ 1) × Says errors (missing_text verb.Extract name wanted) × IsUntouched output
-  EndsExtract wanted name (Err e) status = Refuses e errors status × IsUntouched output
+  EndsExtract wanted name (Err e) status = StopsAt name e errors status × IsUntouched output
 
   -- The file was read, and the data of the section written, if it has it before its first fault.
   pub record ExtractsHeld (wanted : List ℕ) (skips : ℕ) (name : List ℕ) (status : ℕ) : Type 0 where
@@ -303,34 +309,47 @@ module _ {S I O : Type 0} (calls : SystemOf S I O) (sources : SourceOf I) (sinks
   abbrev pub Extracts : Result ℕ AllocError → Type 0
   Extracts result = IfAllocated (ExtractsOperands (operands_in reads)) output errors result
 
-  -- The new section was written, or refused since it is too large.
-  abbrev pub SetsNew : (is_there : Bool) (new : NewSection) (original : Original) (status : ℕ) → Type 0
-  SetsNew is_there new original status =
-      (¬ Fits new × RefusesWith (too_large_text verb.Producers new.name.now) output errors status)
-      ⊎ WritesTo calls sources sinks system (edit_that_sets is_there new ∷ []) original (target_in reads) output
-      forwarded errors status
+  -- The stream was written with the new section in place of its first one with the name.
+  pub record ReplacesIn (new : NewSection) (name stream : List ℕ) (status : ℕ) : Type 0 where
+    pub result : List ℕ
+    pub replaces : ReplacesFirst new stream result
+    pub writes : WritesBytesTo calls sources sinks system result name (target_in reads) output forwarded errors status
 
-  -- The section was set to new data.
-  pub record SetsData (is_there : Bool) (original : Original) (status : ℕ) : Type 0 where
+  -- The stream has no section with the name, and was written with the new one after its own.
+  pub record AppendsIn (new : NewSection) (name stream : List ℕ) (status : ℕ) : Type 0 where
+    pub result : List ℕ
+    pub none : FindsFirst new.name.now stream (Ok None)
+    pub appends : IsEdited (edit.Append new ∷ []) stream result
+    pub writes : WritesBytesTo calls sources sinks system result name (target_in reads) output forwarded errors status
+
+  -- The stream has this fault, and this was said.
+  pub record StopsIn (stream name : List ℕ) (status : ℕ) : Type 0 where
+    pub fault : Error
+    pub ends : EndsWithFault stream fault
+    pub stops : StopsAt name fault errors status
+    pub sink : IsUntouched output
+
+  -- The section was set in a stream without a fault, or the fault was said.
+  abbrev pub SetsIn : (new : NewSection) (name stream : List ℕ) (status : ℕ) → Type 0
+  SetsIn new name stream status =
+      ReplacesIn new name stream status ⊎ (AppendsIn new name stream status ⊎ StopsIn stream name status)
+
+  -- The section was set to new data, or refused since it is too large.
+  pub record SetsSection (name stream : List ℕ) (status : ℕ) : Type 0 where
     pub new : NewSection
     pub named : new.name.now ≡ codes "producers"
-    pub sets : SetsNew is_there new original status
+    pub sets : (¬ Fits new × RefusesWith (too_large_text verb.Producers new.name.now) output errors status)
+        ⊎ SetsIn new name stream status
 
-  -- The stream was written with the section set.
-  pub record SetsSection (name stream : List ℕ) (is_there : Bool) (status : ℕ) : Type 0 where
-    pub original : Original
-    pub held : IsHeldOriginal name stream original
-    pub sets : SetsData is_there original status
+  abbrev pub EndsSetting : {A : Type 0} → (name stream : List ℕ) → Result A Error → (status : ℕ) → Type 0
+  EndsSetting name stream (Ok new) status = SetsSection name stream status
+  EndsSetting name stream (Err e) status = StopsAt name e errors status × IsUntouched output
 
-  abbrev pub EndsSetting : (name stream : List ℕ) → Result NewData Error → (status : ℕ) → Type 0
-  EndsSetting name stream (Ok change) status = SetsSection name stream change.is_there status
-  EndsSetting name stream (Err e) status = Refuses e errors status × IsUntouched output
-
-  -- The file was read, its first section with producers found, and set.
+  -- The file was read, its first section with producers looked for, and set.
   pub record SetsHeld (name : List ℕ) (status : ℕ) : Type 0 where
     pub stream : List ℕ
     pub gave : Gave calls sources sinks system name stream
-    pub change : Result NewData Error
+    pub change : Result (Vec ℕ Global) Error
     pub finds : FindsChange stream change
     pub ends : EndsSetting name stream change status
 
@@ -376,17 +395,17 @@ module _ {S I O : Type 0} (calls : SystemOf S I O) (sources : SourceOf I) (sinks
     pub writes : WritesAdded edits original status
 
   -- The stream has its first fault before one of the sections that are looked for, and this was said.
-  pub record FindsFault (stream : List ℕ) (status : ℕ) : Type 0 where
+  pub record FindsFault (file stream : List ℕ) (status : ℕ) : Type 0 where
     pub name : List ℕ
     pub fault : Error
     pub finds : FindsSection name 0 stream (Err fault)
-    pub refuses : Refuses fault errors status
+    pub refuses : StopsAt file fault errors status
     pub sink : IsUntouched output
 
   -- The sections are added to a stream in memory. Those whose name it has are replaced.
   abbrev pub AddsHeld : (stream : List ℕ) (loaded : List (List ℕ × List ℕ)) (original : Original) (status : ℕ) → Type 0
   AddsHeld stream loaded original status =
-      AddsBy (IsAddedTo stream) loaded original status ⊎ FindsFault stream status
+      AddsBy (IsAddedTo stream) loaded original status ⊎ FindsFault original.name.now stream status
 
 module _ {S I O : Type 0} (calls : SystemOf S I O) (sources : SourceOf I) (sinks : SinkOf O) (system : S)
     (reads : List Read) (output : Device) (forwarded : Bool) (errors : Device) where
@@ -444,9 +463,15 @@ module _ {S I O : Type 0} (calls : SystemOf S I O) (sources : SourceOf I) (sinks
       (CannotLoad calls sources sinks system additions errors status × IsUntouched output)
       ⊎ AddsData additions file status
 
+  -- by whether standard input is asked for more than once
+  abbrev pub AddsOnce : (again : Bool) → (additions : List (List ℕ × List ℕ)) (file : List ℕ) (status : ℕ) → Type 0
+  AddsOnce true additions file status = RefusesWith input_twice_text output errors status
+  AddsOnce false additions file status = AddsAll additions file status
+
   abbrev pub AddsWords : (refused : Option (List ℕ)) → (words : List (List ℕ)) (file : List ℕ) (status : ℕ) → Type 0
   AddsWords (Some word) words file status = RefusesWith (no_data_text word) output errors status
-  AddsWords None words file status = AddsAll (map added_in words) file status
+  AddsWords None words file status =
+      AddsOnce (is_asked_again (is_input file) (map added_in words)) (map added_in words) file status
 
   -- The last operand is the file, and those before it are the sections.
   pub record AddsOperands (operands : List (List ℕ)) (status : ℕ) : Type 0 where

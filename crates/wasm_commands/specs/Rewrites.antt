@@ -18,10 +18,10 @@ use Rattle.wasm_edits.specs.Edited.{IsEdited}
 use Rattle.wasm_edits.specs.Stripped.{EndsWithFault}
 use Rattle.wasm_edits.specs.declared.edits.Edit.{Edit}
 use Rattle.wasm_console.specs.Devices.{IsUntouched}
-use Rattle.wasm_console.specs.Strips.{ReadsAll, Refuses}
+use Rattle.wasm_console.specs.Strips.{ReadsAll}
 use Rattle.wasm_commands.specs.ArgumentLists.{Read, last_value}
 use Rattle.wasm_commands.specs.EditsTwice.{EditsTwice}
-use Rattle.wasm_commands.specs.Messages.{file_text, reason_if_any}
+use Rattle.wasm_commands.specs.Messages.{StopsAt, file_text, reason_if_any}
 use Rattle.wasm_commands.specs.Reasons.{reason_of}
 use Rattle.wasm_commands.specs.Systems.{FailsOn, GivesUp}
 use Rattle.wasm_commands.specs.declared.messages.Causes.{Causes}
@@ -40,7 +40,7 @@ pub record FailsTarget (target : List ℕ) (errors : Device) (status : ℕ) : Ty
 -- what a run over a stream says, and its status: 0 at the end of the stream, 1 at its fault, 3 if the run failed
 abbrev pub EndsRun : (name : List ℕ) → Result Ended ListError → (errors : Device) (status : ℕ) → Type 0
 EndsRun name (Ok End) errors status = (status ≡ 0) × IsUntouched errors
-EndsRun name (Ok (Fault e)) errors status = Refuses e errors status
+EndsRun name (Ok (Fault e)) errors status = StopsAt name e errors status
 EndsRun name (Err why) errors status = FailsOn name why errors status
 
 -- At the end of a stream the output was flushed, or failed. After a fault or a failure nothing is done.

@@ -9,7 +9,7 @@ use Rattle.wasm_commands.specs.Colors.{seen_as}
 use Rattle.wasm_commands.specs.DumpRuns.{RunsDump}
 use Rattle.wasm_commands.specs.EditsTwice.{dropped}
 use Rattle.wasm_commands.specs.Formats.{format_asked, has_colors}
-use Rattle.wasm_commands.specs.Messages.{Reports, complaint_text, missing_text}
+use Rattle.wasm_commands.specs.Messages.{Reports, missing_text, names_text}
 use Rattle.wasm_commands.specs.Parsing.{texts}
 use Rattle.wasm_commands.specs.Systems.{Between, Files, FailsOn, InTurn, RefusesWith, RunsIfMemory, StopsForMemory}
 use Rattle.wasm_commands.specs.Systems.{UsesFile, since, until}
@@ -17,7 +17,6 @@ use Rattle.wasm_commands.specs.declared.dump.Plan.{Plan}
 use Rattle.wasm_commands.specs.declared.dump.Request.{Request}
 use Rattle.wasm_commands.specs.declared.dump.format.Format.{Format}
 use Rattle.wasm_commands.specs.declared.messages.Causes.{Causes}
-use Rattle.wasm_commands.specs.declared.messages.Complaint.TheVariants.{NamesOfInput}
 use Rattle.wasm_commands.specs.declared.options.Flag.TheVariants.{Bytes, Section}
 use Rattle.wasm_commands.specs.declared.options.Verb.{Verb}
 use Rattle.wasm_commands.specs.declared.options.Verb.TheVariants as verb
@@ -30,7 +29,6 @@ use Rattle.wasm_text.specs.Calls.{Device, output_failed}
 use Rattle.wasm_text.specs.Messages.{Says}
 use Rattle.wasm_text.specs.declared.devices.ListError.{ListError}
 use Rattle.wasm_text.specs.declared.devices.ListError.TheVariants.{Output}
-use Rattle.wasm_tree.specs.Json.{AreObjects}
 
 -- ---- one file
 
@@ -43,20 +41,30 @@ pub record DumpsInput (plan : Plan) (name : List ℕ) (input output errors : Dev
   pub answers : status ≡ status_for how
   pub reports : Reports name how causes errors
 
+-- The same, or memory ran out before.
+abbrev pub DumpsIfMemory : Plan → (name : List ℕ) → (input output errors : Device) (status : ℕ) → Type 0
+DumpsIfMemory plan name input output errors status =
+    DumpsInput plan name input output errors status ⊎ StopsForMemory output errors status
+
 -- The file was opened and dumped, or could not be opened.
 abbrev pub DumpsFile : Files → Plan → (name : List ℕ) → (output errors : Device) (status : ℕ) → Type 0
-DumpsFile files plan name output errors status = UsesFile files (DumpsInput plan name) name output errors status
+DumpsFile files plan name output errors status = UsesFile files (DumpsIfMemory plan name) name output errors status
 
 -- An input was read for names, after which the file was opened again and dumped; or memory ran out while it was read.
 abbrev pub DumpsAgain : Files → Plan → (name : List ℕ) → (input output errors : Device) (status : ℕ) → Type 0
 DumpsAgain files plan name input output errors status =
     DumpsFile files plan name output errors status ⊎ StopsForMemory output errors status
 
--- The file was dumped with the names of its items. Standard input can't be read twice, and is refused.
+-- The same; or the file was refused, since it can be read only once.
+abbrev pub DumpsTwice : Files → Plan → (name : List ℕ) → (input output errors : Device) (status : ℕ) → Type 0
+DumpsTwice files plan name input output errors status =
+    DumpsAgain files plan name input output errors status ⊎ RefusesWith (names_text name) output errors status
+
+-- The file was dumped with the names of its items, for which it is read twice. Standard input is not opened.
 pub record DumpsNamed (files : Files) (plan : Plan) (name : List ℕ) (output errors : Device) (status : ℕ) : Type 0
   where
-    pub of_input : name ≡ codes "-" → RefusesWith (complaint_text NamesOfInput) output errors status
-    pub of_file : ¬ (name ≡ codes "-") → UsesFile files (DumpsAgain files plan name) name output errors status
+    pub of_input : name ≡ codes "-" → RefusesWith (names_text name) output errors status
+    pub of_file : ¬ (name ≡ codes "-") → UsesFile files (DumpsTwice files plan name) name output errors status
 
 -- by whether names are shown
 abbrev pub Dumps : (is_named : Bool) → Files → Plan → (name : List ℕ) → (output errors : Device) (status : ℕ)
@@ -99,28 +107,9 @@ WritesLine text output (Ok done) =
 WritesLine text output (Err why) =
     (why ≡ Output) × ((n : ℕ) × Appends output.before output.after (take n text)) × (output.has_failed ≡ true)
 
--- Lines of JSON were written, each of them an object, or a prefix of them if the output or an allocation failed.
-abbrev pub WritesObject : (output : Device) → Result (Unit {0}) ListError → Type 0
-WritesObject output (Ok done) = (text : List ℕ) × AreObjects text × Appends output.before output.after text
-    × (output.has_failed ≡ output.had_failed)
-WritesObject output (Err why) = (text : List ℕ) × (unwritten : List ℕ) × AreObjects (text ++ unwritten)
-    × Appends output.before output.after text
-    × (output.has_failed ≡ output_failed {A = Unit {0}} (Err why) output.had_failed)
-
--- what is returned of a writer of objects, by why it has stopped
-abbrev pub ended_by : Option ListError → Result (Unit {0}) ListError
-ended_by None = Ok tt
-ended_by (Some why) = Err why
-
 -- the line before what is shown of a file
 abbrev pub heading : (name : List ℕ) → List ℕ
 heading name = name ++ codes ":\n"
-
--- The name of a file was written before what is shown of it.
-abbrev pub WritesHeading : (is_json : Bool) (name : List ℕ) → (output : Device) → Result (Unit {0}) ListError
-    → Type 0
-WritesHeading true name output result = WritesObject output result
-WritesHeading false name output result = WritesLine (heading name) output result
 
 -- After its name the file was shown; or the name could not be written.
 abbrev pub ShowsAfter : Files → Plan → (name : List ℕ) → Result (Unit {0}) ListError → (output errors : Device)
@@ -133,15 +122,21 @@ pub record ShowsUnderName (files : Files) (plan : Plan) (name : List ℕ) (outpu
     : Type 0 where
   pub written : Between
   pub headed : Result (Unit {0}) ListError
-  pub heads : WritesHeading plan.format.is_json name (until output written) headed
+  pub heads : WritesLine (heading name) (until output written) headed
   pub shows : ShowsAfter files plan name headed (since output written) errors status
 
--- One file was shown, or standard input if none is named; of several files each under its name.
+-- One of several files was shown: under its name, unless it was shown as JSON, where each object has the name.
+abbrev pub ShowsTitled : (is_json : Bool) → Files → Plan → (name : List ℕ) → (output errors : Device) (status : ℕ)
+    → Type 0
+ShowsTitled true files plan name output errors status = ShowsFile files plan name output errors status
+ShowsTitled false files plan name output errors status = ShowsUnderName files plan name output errors status
+
+-- One file was shown, or standard input if none is named; or several files.
 abbrev pub ShowsFiles : Files → Plan → (names : List (List ℕ)) → (output errors : Device) (status : ℕ) → Type 0
 ShowsFiles files plan [] output errors status = ShowsFile files plan (codes "-") output errors status
 ShowsFiles files plan (name ∷ []) output errors status = ShowsFile files plan name output errors status
 ShowsFiles files plan (name ∷ (second ∷ more)) output errors status =
-    InTurn (ShowsUnderName files plan) (name ∷ (second ∷ more)) output errors status
+    InTurn (ShowsTitled plan.format.is_json files plan) (name ∷ (second ∷ more)) output errors status
 
 -- ---- commands
 

@@ -1,22 +1,22 @@
 // The command `add`: appends custom sections, or replaces them.
-ghost use Rattle.std.specs.Prelude.{false, IfOk, map};
+ghost use Rattle.std.specs.Prelude.{◌≡◌, false, IfOk, map};
 ghost use Rattle.wasm_commands.specs.ArgumentLists.{has_option};
 ghost use Rattle.wasm_commands.specs.Parsing.{reads_of, texts};
 ghost use Rattle.wasm_commands.specs.declared.options.Flag.TheVariants.{Replace};
-ghost use Rattle.wasm_commands.specs.RewriteCommands.{Adds, AddsAll, AddsBy, AddsHeld, AddsLoaded, AddsRead, AddsSearched, AddsTo, AddsWords, AreAdditions, AreOperands, EachInTurn, IfAdded, IsAdded, IsAddedBy, IsAddition, LoadsAll, Searches, WritesAdded, loaded_parts, no_addition, parts_of};
+ghost use Rattle.wasm_commands.specs.RewriteCommands.{Adds, AddsAll, AddsBy, AddsHeld, AddsLoaded, AddsRead, AddsSearched, AddsTo, AddsWords, AreAdditions, AreOperands, EachInTurn, IfAdded, IsAdded, IsAddedBy, IsAddition, LoadsAll, is_asked_again, is_input, Searches, WritesAdded, loaded_parts, no_addition, parts_of};
 ghost use Rattle.wasm_commands.specs.Systems.{IfAllocated};
 ghost use Rattle.wasm_text.specs.Calls.{device_of, writer_device};
 
 use crate::arguments::Arguments;
 use crate::extract::{Wanted, find};
-use crate::messages::{Complaint, complain, refuse_file};
+use crate::messages::{Complaint, complain, refuse_file, report_fault};
 use crate::options::{Flag, Verb};
 use crate::rewriting::{Original, answer, hold, original_of, write_edited};
 use crate::system::System;
 use std::alloc::{AllocError, Global};
 use std::cell::Cell;
 use std::io::Write;
-use wasm_console::{PIECE, report_fault};
+use wasm_console::PIECE;
 use wasm_dumper::{Only, Shown, dump};
 use wasm_feed::{Edit, Ended, ListError, NewSection, Sink, Source, WriteSink, all_fit};
 use wasm_parser::Result as ParserResult;
@@ -63,6 +63,24 @@ fn parse_additions<'a>(
         rest = more;
     }
     Ok(Ok(additions))
+}
+
+// Returns whether more than one of these files is standard input, which can be read only once.
+fn reads_input_twice(additions: &[Addition<'_>], file: &str) -> bool
+    ensures { result ≡ is_asked_again (is_input file.now) (map parts_of additions.now) }
+{
+    let mut is_asked = file == "-";
+    let mut rest = additions;
+    'additions: while let [addition, more @ ..] = rest {
+        if addition.file == "-" {
+            if is_asked {
+                return true;
+            }
+            is_asked = true;
+        }
+        rest = more;
+    }
+    false
 }
 
 // Reads the data of all sections. Says why if that fails, and returns the exit status.
@@ -208,7 +226,7 @@ fn search<S: System, W: Write, E: Sink>(
         Err(cause) => return (refuse_file(name, cause, errors), output),
     };
     let (how, output) = find_named(alloc, only, found, &mut input, output);
-    (answer(alloc, name, how, system, errors), output)
+    (answer(name, how, system, errors), output)
 }
 
 // Returns the name of the first section that is too large.
@@ -286,7 +304,7 @@ fn add_to_held<'a, S: System, W: Write, E: Sink>(
 {
     match edits_to(alloc, loaded, bytes)? {
         Ok(edits) => Ok(write_added(alloc, &edits, original, arguments, system, output, errors)),
-        Err(error) => Ok(report_fault(alloc, error, errors)),
+        Err(error) => Ok(report_fault(original.name, &error, errors)),
     }
 }
 
@@ -490,6 +508,9 @@ fn add_words<S: System, W: Write, E: Sink>(
 {
     match parse_additions(alloc, words) {
         Ok(Ok(additions)) => {
+            if reads_input_twice(&additions, file) {
+                return (Ok(complain(Complaint::InputTwice, errors)), output);
+            }
             add_data(alloc, &additions, file, arguments, system, output, errors)
         }
         Ok(Err(word)) => (Ok(complain(Complaint::NoData(word), errors)), output),

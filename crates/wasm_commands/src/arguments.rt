@@ -1,6 +1,6 @@
 // Parses the arguments of a command: options and operands, in any order, as GNU programs do.
-ghost use Rattle.std.specs.Prelude.{◌≡◌, ◌∷◌, ◌++◌, [], IfOk, OnOk, map, option_map, string_bytes};
-ghost use Rattle.wasm_commands.specs.ArgumentLists.{arguments_of, attached_of, has_option, is_option as is_dashed, last_value, name_of, operand, operands_in, option, read_one as one_read, read_value, value_in, values_in};
+ghost use Rattle.std.specs.Prelude.{◌≡◌, ◌∷◌, ◌++◌, [], IfOk, OnOk, map, option_map, string_bytes, true};
+ghost use Rattle.wasm_commands.specs.ArgumentLists.{arguments_of, attached_of, has_option, is_joined, is_option as is_dashed, last_value, name_of, operand, operands_in, option, read_one as one_read, read_value, value_in, values_in};
 ghost use Rattle.wasm_commands.specs.Options.{takes_of};
 ghost use Rattle.wasm_commands.specs.Parsing.{IsSplit, Steps, one_of, parsed_of, read_of, reads_of, text_if_any, texts};
 
@@ -40,7 +40,7 @@ struct One<'a> {
     takes_next: bool,
 }
 
-// The name of an option, and the value attached to it by `=`.
+// The name of an option, and the value attached to it.
 #[derive(Clone, Copy)]
 struct Parts<'a> {
     name: &'a str,
@@ -74,13 +74,32 @@ fn split_at_equals(word: &str) -> Parts<'_>
     }
 }
 
-// Splits an option into its name and its value. A short option has no attached value.
+// Splits `-oVALUE` after its letter.
+fn split_after_letter(word: &str) -> Parts<'_>
+    requires { is_joined word.now ≡ true }
+    ensures name { result.name.now ≡ name_of word.now }
+    ensures value { text_if_any result.value ≡ attached_of word.now }
+{
+    match word.split_once('o') {
+        Some((_, value)) => Parts {
+            name: "-o",
+            value: Some(value),
+        },
+        None => Parts {
+            name: word,
+            value: None,
+        },
+    }
+}
+
+// Splits an option into its name and its value. Of the short options, only `-o` may have its value attached.
 fn split_attached(word: &str) -> Parts<'_>
     ensures name { result.name.now ≡ name_of word.now }
     ensures value { text_if_any result.value ≡ attached_of word.now }
 {
     match word.as_bytes() {
         [b'-', b'-', ..] => split_at_equals(word),
+        [b'-', b'o', _, ..] => split_after_letter(word),
         _ => Parts {
             name: word,
             value: None,
@@ -226,8 +245,8 @@ pub(crate) fn parse<'a>(
     words: &'a [String],
 ) -> Result<Result<Arguments<'a>, Refusal<'a>>, AllocError>
     // Proved: arguments are read as GNU programs read them: options before and after other
-    //   arguments, values after `=` or as the next argument, and after `--` no options; of wrong
-    //   arguments the first is refused
+    //   arguments, values after `=`, after the letter `-o` or as the next argument, and after `--` no
+    //   options; of wrong arguments the first is refused
     ensures { IfOk result (λ parsed. parsed_of parsed ≡ arguments_of verb (map string_bytes words.now)) }
 {
     let mut parsed = Vec::new(alloc);

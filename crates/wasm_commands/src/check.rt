@@ -84,8 +84,9 @@ pub fn check_as<R: Source, W: Write>(
     output: WriteSink<W>,
 ) -> (Result<bool, ListError>, WriteSink<W>)
     // Proved: `check_as` returns whether there is a fault: none exactly if the stream is accepted,
-    //   and each section of a known kind, and each custom section that is known, is read to its end
-    //   without a fault by the meaning of its items, their lists and subsections
+    //   each section of a known kind is read to its end without a fault by the meaning of its items,
+    //   their lists and subsections, and so is each custom section with a known name, whose reader
+    //   accepts its data
     //   [its clause (`ChecksInput`: `IsFaulty`, `any_faulty`)]
     ensures checks { ChecksInput (from_to (R.remaining input.old) (R.remaining input.new)) result.0 }
     ensures forwards { IfOk result.0 (λ found. result.1.forwarded ≡ true) }

@@ -255,7 +255,7 @@ pub fn run<S: System, W: Write, E: Sink>(
     // Proved: `strip`, `extract`, `add` and `producers` do what is said of them above [the clause of `run` (`RunsWords`,
     //   `RunsCommand`)]
     // Proved: `list` and `dump` open each file in turn, twice for names, and write what is asked for in the format that is
-    //   asked for, each under its name if there are several. The status is the greatest: 0 for a file that was read to its
+    //   asked for, as lines each under its name if there are several. The status is the greatest: 0 for a file that was read to its
     //   end, 1 at its fault or with a message for each word that chose nothing, and 3 with the system's reason if something
     //   failed [the clause of `run` (`RunsWords`, `Shows`)]
     ensures runs { RunsWords (platform S.System S.Input.Source S.Output.Sink system.now)

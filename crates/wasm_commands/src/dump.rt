@@ -3,7 +3,7 @@ ghost use Rattle.std.specs.Prelude.{◌≡◌, ◌<◌, ◌≤◌, length, IfOk}
 ghost use Rattle.wasm_commands.specs.ArgumentLists.{operands_in};
 ghost use Rattle.wasm_commands.specs.EditsTwice.{dropped};
 ghost use Rattle.wasm_commands.specs.Parsing.{reads_of, texts};
-ghost use Rattle.wasm_commands.specs.Shows.{ChooseFor, Dumps, DumpsAgain, DumpsFile, DumpsInput, DumpsNamed, IsRequest, MayWarn, Shows, ShowsAfter, ShowsFile, ShowsFiles, ShowsIn, ShowsUnderName, Warns, WarnsAfter, words_asked};
+ghost use Rattle.wasm_commands.specs.Shows.{ChooseFor, Dumps, DumpsAgain, DumpsFile, DumpsIfMemory, DumpsNamed, DumpsTwice, IsRequest, MayWarn, Shows, ShowsAfter, ShowsFile, ShowsFiles, ShowsIn, ShowsTitled, ShowsUnderName, Warns, WarnsAfter, words_asked};
 ghost use Rattle.wasm_commands.specs.Systems.{FilesOf, ForwardsIfMemory, InTurn, IsForwarded, RunsIfMemory, UsesFile};
 ghost use Rattle.wasm_text.specs.Calls.{device_of, writer_device};
 
@@ -27,7 +27,7 @@ use choices::chosen_by;
 pub use colored::Colored;
 pub use format::Format;
 use format::format_of;
-pub use run::dump_as;
+pub use run::{Titles, dump_as};
 use std::alloc::{AllocError, Global};
 use std::cell::Cell;
 use std::io::Write;
@@ -99,6 +99,15 @@ fn warn_after<E: Sink>(plan: Plan<'_>, name: &str, status: u8, errors: &mut E) -
     status.max(warn_of_unfound(plan, name, errors))
 }
 
+// Returns the name that each JSON object has, if there are objects.
+fn title_of(alloc: Global, is_json: bool, name: &str) -> Result<Option<String>, AllocError> {
+    if is_json {
+        Ok(Some(String::from_str(alloc, name)?))
+    } else {
+        Ok(None)
+    }
+}
+
 // Shows an input, with these names if there are any. Returns the status, and the output.
 fn show_input<S: System, R: Source, W: Write, E: Sink>(
     alloc: Global,
@@ -110,13 +119,17 @@ fn show_input<S: System, R: Source, W: Write, E: Sink>(
     output: WriteSink<W>,
     errors: &mut E,
 ) -> (u8, WriteSink<W>)
-    ensures shows { DumpsInput plan.entry name.now
+    ensures shows { DumpsIfMemory plan.entry name.now
         (device_of R.remaining R.has_failed input.old input.new)
         (writer_device W.contents output result.1)
         (device_of E.taken E.has_failed errors.old errors.new) result.0 }
     ensures forwards { IsForwarded result.0 result.1.forwarded }
 {
-    let (how, output) = dump_as(alloc, plan.shown, plan.format, names, input, output);
+    let Ok(file) = title_of(alloc, plan.format.is_json, name) else {
+        return (stop_for_memory(errors), output);
+    };
+    let titles = Titles { file, names };
+    let (how, output) = dump_as(alloc, plan.shown, plan.format, titles, input, output);
     (report(name, &how, system.causes(), errors), output)
 }
 
@@ -163,6 +176,30 @@ fn show_again<S: System, R: Source, W: Write, E: Sink>(
     }
 }
 
+// Reads an input for the names of its items, then opens its file again to show it, if the file can be read twice. Returns
+// the status, and the output.
+fn show_if_regular<S: System, R: Source, W: Write, E: Sink>(
+    alloc: Global,
+    plan: Plan<'_>,
+    system: &S,
+    name: &str,
+    input: &mut R,
+    output: WriteSink<W>,
+    errors: &mut E,
+) -> (u8, WriteSink<W>)
+    ensures shows { DumpsTwice (FilesOf S.System S.Input.Source system.now) plan.entry name.now
+        (device_of R.remaining R.has_failed input.old input.new)
+        (writer_device W.contents output result.1)
+        (device_of E.taken E.has_failed errors.old errors.new) result.0 }
+    ensures forwards { IsForwarded result.0 result.1.forwarded }
+{
+    if system.is_regular(name) {
+        show_again(alloc, plan, system, name, input, output, errors)
+    } else {
+        (complain(Complaint::NamesOf(name), errors), output)
+    }
+}
+
 // Reads a file for the names of its items, then again to show it. Returns the status, and the output.
 fn show_file_with_names<S: System, W: Write, E: Sink>(
     alloc: Global,
@@ -173,18 +210,18 @@ fn show_file_with_names<S: System, W: Write, E: Sink>(
     errors: &mut E,
 ) -> (u8, WriteSink<W>)
     ensures shows { UsesFile (FilesOf S.System S.Input.Source system.now)
-        (DumpsAgain (FilesOf S.System S.Input.Source system.now) plan.entry name.now) name.now
+        (DumpsTwice (FilesOf S.System S.Input.Source system.now) plan.entry name.now) name.now
         (writer_device W.contents output result.1)
         (device_of E.taken E.has_failed errors.old errors.new) result.0 }
     ensures forwards { IsForwarded result.0 result.1.forwarded }
 {
     match system.open(name) {
-        Ok(mut input) => show_again(alloc, plan, system, name, &mut input, output, errors),
+        Ok(mut input) => show_if_regular(alloc, plan, system, name, &mut input, output, errors),
         Err(cause) => (refuse_file(name, cause, errors), output),
     }
 }
 
-// Shows a file with the names of its items. Standard input can't be read twice.
+// Shows a file with the names of its items. Standard input can't be read twice, so it is not even opened.
 fn show_with_names<S: System, W: Write, E: Sink>(
     alloc: Global,
     plan: Plan<'_>,
@@ -199,7 +236,7 @@ fn show_with_names<S: System, W: Write, E: Sink>(
     ensures forwards { IsForwarded result.0 result.1.forwarded }
 {
     if name == "-" {
-        (complain(Complaint::NamesOfInput, errors), output)
+        (complain(Complaint::NamesOf(name), errors), output)
     } else {
         show_file_with_names(alloc, plan, system, name, output, errors)
     }
@@ -252,7 +289,7 @@ fn show_file<S: System, W: Write, E: Sink>(
     (warn_after(plan, name, status, errors), output)
 }
 
-// Writes the name of a file, then shows it. Returns the status, and the output.
+// Writes the name of a file as a line, then shows it. Returns the status, and the output.
 fn show_under_name<S: System, W: Write, E: Sink>(
     alloc: Global,
     plan: Plan<'_>,
@@ -266,14 +303,35 @@ fn show_under_name<S: System, W: Write, E: Sink>(
         (device_of E.taken E.has_failed errors.old errors.new) result.0 }
     ensures forwards { IsForwarded result.0 result.1.forwarded }
 {
-    let (headed, output) = write_heading(alloc, plan.format.is_json, name, output);
-    match headed {
+    let mut output = output;
+    match write_heading(name, &mut output) {
         Ok(()) => show_file(alloc, plan, system, name, output, errors),
         Err(why) => (refuse_run(name, why, system.causes(), errors), output),
     }
 }
 
-// Shows files, each under its name if there are several; standard input if there are none. Returns the greatest status,
+// Shows one of several files: after its name, unless each object has that. Returns the status, and the output.
+fn show_titled<S: System, W: Write, E: Sink>(
+    alloc: Global,
+    plan: Plan<'_>,
+    system: &S,
+    name: &str,
+    output: WriteSink<W>,
+    errors: &mut E,
+) -> (u8, WriteSink<W>)
+    ensures shows { ShowsTitled plan.entry.format.is_json (FilesOf S.System S.Input.Source system.now)
+        plan.entry name.now (writer_device W.contents output result.1)
+        (device_of E.taken E.has_failed errors.old errors.new) result.0 }
+    ensures forwards { IsForwarded result.0 result.1.forwarded }
+{
+    if plan.format.is_json {
+        show_file(alloc, plan, system, name, output, errors)
+    } else {
+        show_under_name(alloc, plan, system, name, output, errors)
+    }
+}
+
+// Shows files, or standard input if there are none. Returns the greatest status,
 // and the output.
 fn show_files<S: System, W: Write, E: Sink>(
     alloc: Global,
@@ -295,7 +353,7 @@ fn show_files<S: System, W: Write, E: Sink>(
     }
 }
 
-// Shows several files, each under its name. Returns the greatest status, and the output.
+// Shows several files. Returns the greatest status, and the output.
 fn show_several<S: System, W: Write, E: Sink>(
     alloc: Global,
     plan: Plan<'_>,
@@ -304,7 +362,7 @@ fn show_several<S: System, W: Write, E: Sink>(
     output: WriteSink<W>,
     errors: &mut E,
 ) -> (u8, WriteSink<W>)
-    ensures shows { InTurn (ShowsUnderName (FilesOf S.System S.Input.Source system.now) plan.entry)
+    ensures shows { InTurn (ShowsTitled plan.entry.format.is_json (FilesOf S.System S.Input.Source system.now) plan.entry)
         (texts names.now) (writer_device W.contents output result.1)
         (device_of E.taken E.has_failed errors.old errors.new) result.0 }
     ensures forwards { 0 < length names.now → IsForwarded result.0 result.1.forwarded }
@@ -312,7 +370,7 @@ fn show_several<S: System, W: Write, E: Sink>(
     let mut status = 0u8;
     let mut output = output;
     for name in names {
-        let (one, after) = show_under_name(alloc, plan, system, name, output, errors);
+        let (one, after) = show_titled(alloc, plan, system, name, output, errors);
         output = after;
         status = status.max(one);
     }

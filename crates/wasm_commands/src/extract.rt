@@ -5,20 +5,21 @@ ghost use Rattle.wasm_commands.specs.Parsing.{reads_of, text_if_any};
 ghost use Rattle.wasm_commands.specs.RewriteCommands.{EndsExtract, Extracts, ExtractsFile, ExtractsFrom, Skips, value_text, wrong_value_text};
 ghost use Rattle.wasm_commands.specs.Rewrites.{EndsBytes, ForwardsBytes, WritesBytes, WritesBytesFile, WritesBytesOut, WritesBytesTo, target_in};
 ghost use Rattle.wasm_commands.specs.declared.options.Verb.TheVariants.{Extract};
+ghost use Rattle.wasm_console.specs.Messages.{joined};
 ghost use Rattle.wasm_text.specs.Calls.{device_of, writer_device};
 ghost use Rattle.wasm_text.specs.Messages.{Says};
 
 use crate::arguments::Arguments;
 use crate::messages::{
-    Complaint, complain, refuse_file, refuse_run, refuse_target, warn_of_missing,
+    Complaint, complain, refuse_file, refuse_run, refuse_target, report_fault, warn_of_missing,
 };
 use crate::options::{Flag, Verb};
 use crate::rewriting::{end_target, hold};
 use crate::system::System;
 use std::alloc::{AllocError, Global};
 use std::io::Write;
-use wasm_console::report_fault;
-use wasm_feed::{ListError, Sink, WriteSink, write_all};
+use wasm_console::write_parts;
+use wasm_feed::{ListError, Sink, WriteSink};
 use wasm_parser::{CustomSectionReader, Parser, Payload, Result as ParserResult};
 
 /// The custom section that is looked for: its name, and how many with this name come before it.
@@ -66,22 +67,23 @@ pub(crate) fn find<'a>(
     Ok(None)
 }
 
-// Writes bytes. Returns whether the device took all of them.
-fn writes_all<W: Sink>(output: &mut W, bytes: &[u8]) -> bool
-    ensures { WritesBytes bytes.now (device_of W.taken W.has_failed output.old output.new) result }
+// Writes bytes that are in several parts. Returns whether the device took all of them.
+fn writes_all<W: Sink>(output: &mut W, parts: &[&[u8]]) -> bool
+    ensures { WritesBytes (joined parts.now)
+        (device_of W.taken W.has_failed output.old output.new) result }
 {
-    match write_all(output, bytes) {
+    match write_parts(output, parts) {
         Ok(()) => true,
         Err(_) => false,
     }
 }
 
 // Writes bytes to the output and flushes it. Returns whether that succeeded.
-fn forwards_all<W: Write>(output: &mut WriteSink<W>, bytes: &[u8]) -> bool
-    ensures { ForwardsBytes bytes.now (writer_device W.contents output.old output.new)
+fn forwards_all<W: Write>(output: &mut WriteSink<W>, parts: &[&[u8]]) -> bool
+    ensures { ForwardsBytes (joined parts.now) (writer_device W.contents output.old output.new)
         output.new.forwarded result }
 {
-    if !writes_all(output, bytes) {
+    if !writes_all(output, parts) {
         return false;
     }
     match output.flush() {
@@ -101,62 +103,62 @@ fn answer_file<E: Sink>(is_complete: bool, target: &str, system: &impl System, e
     refuse_target(target, system.causes(), errors)
 }
 
-// Writes the data to a file, which is replaced once all of it is written. Returns the exit status.
+// Writes bytes to a file, which is replaced once all of them are written. Returns the exit status.
 fn write_to_file<S: System, E: Sink>(
     alloc: Global,
-    bytes: &[u8],
+    parts: &[&[u8]],
     system: &S,
     name: &str,
     target: &str,
     errors: &mut E,
 ) -> u8
-    ensures { WritesBytesFile S.System S.Input.Source S.Output.Sink system.now bytes.now name.now
-        target.now (device_of E.taken E.has_failed errors.old errors.new) result }
+    ensures { WritesBytesFile S.System S.Input.Source S.Output.Sink system.now (joined parts.now)
+        name.now target.now (device_of E.taken E.has_failed errors.old errors.new) result }
 {
     let mut output = match system.create(alloc, name, target) {
         Ok(output) => output,
         Err(cause) => return refuse_file(target, cause, errors),
     };
-    let is_complete = writes_all(&mut output, bytes);
+    let is_complete = writes_all(&mut output, parts);
     let status = answer_file(is_complete, target, system, errors);
     end_target(status, target, output, system, errors)
 }
 
-// Writes the data to the output. Returns the exit status.
+// Writes bytes to the output. Returns the exit status.
 fn write_to_output<S: System, W: Write, E: Sink>(
-    bytes: &[u8],
+    parts: &[&[u8]],
     system: &S,
     output: &mut WriteSink<W>,
     errors: &mut E,
 ) -> u8
-    ensures { WritesBytesOut bytes.now (writer_device W.contents output.old output.new)
+    ensures { WritesBytesOut (joined parts.now) (writer_device W.contents output.old output.new)
         output.new.forwarded (device_of E.taken E.has_failed errors.old errors.new) result }
 {
-    if forwards_all(output, bytes) {
+    if forwards_all(output, parts) {
         return 0;
     }
     refuse_run("-", ListError::Output, system.causes(), errors)
 }
 
-// Writes the data to where `--output` says. Returns the exit status.
-fn write_data<S: System, W: Write, E: Sink>(
+/// Writes bytes that are in several parts to where `--output` says. Returns the exit status.
+pub(crate) fn write_joined<S: System, W: Write, E: Sink>(
     alloc: Global,
-    bytes: &[u8],
+    parts: &[&[u8]],
     arguments: &Arguments<'_>,
     system: &S,
     name: &str,
     output: &mut WriteSink<W>,
     errors: &mut E,
 ) -> u8
-    ensures { WritesBytesTo S.System S.Input.Source S.Output.Sink system.now bytes.now name.now
-        (target_in (reads_of arguments.now)) (writer_device W.contents output.old output.new)
+    ensures { WritesBytesTo S.System S.Input.Source S.Output.Sink system.now (joined parts.now)
+        name.now (target_in (reads_of arguments.now)) (writer_device W.contents output.old output.new)
         output.new.forwarded (device_of E.taken E.has_failed errors.old errors.new) result }
 {
     match arguments.last(Flag::Output) {
         Some(Some(target)) if target != "-" => {
-            write_to_file(alloc, bytes, system, name, target, errors)
+            write_to_file(alloc, parts, system, name, target, errors)
         }
-        _ => write_to_output(bytes, system, output, errors),
+        _ => write_to_output(parts, system, output, errors),
     }
 }
 
@@ -178,9 +180,9 @@ fn write_found<S: System, W: Write, E: Sink>(
 {
     match found {
         Ok(Some(section)) => {
-            write_data(
+            write_joined(
                 alloc,
-                section.data(),
+                &[section.data()],
                 arguments,
                 system,
                 name,
@@ -192,7 +194,7 @@ fn write_found<S: System, W: Write, E: Sink>(
             warn_of_missing(Verb::Extract, name, wanted, errors);
             1
         }
-        Err(error) => report_fault(alloc, error, errors),
+        Err(error) => report_fault(name, &error, errors),
     }
 }
 

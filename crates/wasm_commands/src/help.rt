@@ -27,8 +27,10 @@ Commands:
   add        append or replace custom sections
   producers  show or set the tools of a module
 
-Options come before or after files. Without a FILE, or with '-', a command
-reads standard input. 'pulleynavy COMMAND --help' says more.
+Options come before or after files. The value of an option is the next
+argument, or follows the '=' of a long option or the letter of a short one, as
+in -oOUT. Without a FILE, or with '-', a command reads standard input.
+'pulleynavy COMMAND --help' says more.
 ";
 
 // The text of `list --help`.
@@ -43,7 +45,8 @@ sections with their own names, in quotes. With several files, each listing
 follows the name of its file.
 
 Options:
-  --json         Each line is a JSON object, for programs.
+  --json         Each line is a JSON object, for programs. Its last member,
+                 file, is the name of the file.
   --no-progress  Shows no progress. For files above 64 MiB it is otherwise a
                  line on standard error, if that is a terminal.
   --             Ends the options: all arguments after it are files.
@@ -80,8 +83,8 @@ ranges of bytes.
 Options:
   --names         Each file is read twice, and items are shown with their names
                   from the custom sections called 'name', or else from the
-                  symbol table of an object file. Standard input cannot be read
-                  twice.
+                  symbol table of an object file. Only regular files can be
+                  read twice: standard input and pipes are refused.
   --bytes         Each line follows the bytes that it was read from, in
                   hexadecimal.
   --hex           Offsets are hexadecimal, as 0x1f. All other numbers stay
@@ -89,8 +92,9 @@ Options:
   --color[=WHEN]  The text has colors for a terminal: 'always', which is also
                   meant without WHEN, 'never', or 'auto' if the output is a
                   terminal.
-  --json          Each line is a JSON object, for programs. Excludes --bytes,
-                  --hex and --color.
+  --json          Each line is a JSON object, for programs. Its last member,
+                  file, is the name of the file. Excludes --bytes, --hex and
+                  --color.
   --section ID|NAME
                   Only sections with this id, with this name in the standard,
                   or custom sections with this name are shown. The option may
@@ -117,14 +121,15 @@ With several files the exit status is the greatest of theirs.
 // The text of `check --help`.
 const CHECK: &[u8] = b"usage: pulleynavy check [--quiet] [FILE...]
 
-Reads every item of every section that it knows, and writes a line for each
-malformed one: the file, the offset, what is wrong, and the section. It writes
-nothing of a well-formed file.
+Reads the items of every section that it knows, and writes a line for the first
+malformed one of each list: the file, the offset, what is wrong, and the
+section. It writes nothing of a well-formed file, except a warning for each
+section with an unknown id.
 
 It knows the sections of the core standard, and of the custom sections name,
 producers, target_features, linking, reloc.*, dylink.0, branch hints and core
-dumps. It does not look at the instructions of function bodies, and it does not
-validate.
+dumps. If the data of such a section cannot be read, that is a fault. It does
+not look at the instructions of function bodies, and it does not validate.
 
 Options:
   -q, --quiet    Writes nothing. The exit status alone says whether there is a
@@ -157,6 +162,10 @@ written.
 A regular file is read twice instead of being kept in memory: first to check
 it, then to write it. Standard input is read into memory.
 
+Do not use --keep or --only on object files: their relocations name sections by
+number, and removing a section changes the numbers of those after it. Without
+either option all relocations are removed.
+
 Options:
   --keep-names   Keeps the custom sections called 'name'.
   --keep NAME    Keeps the custom sections with this name. The option may be
@@ -167,7 +176,9 @@ Options:
   -o, --output OUT
                  Writes to OUT instead of standard output. OUT is replaced once
                  all of it is written, and may be FILE itself. It keeps its
-                 permissions, or gets those of FILE if it is new.
+                 owner and permissions as far as the system allows, but not its
+                 set-user-ID and set-group-ID bits. A new file gets the
+                 permissions of FILE.
   --no-progress  Shows no progress. For files above 64 MiB it is otherwise a
                  line on standard error, if that is a terminal.
   --             Ends the options: all arguments after it are files.
@@ -189,7 +200,7 @@ const EXTRACT: &[u8] = b"usage: pulleynavy extract [--index N] [-o OUT] NAME [FI
 Writes the data of the custom section called NAME of FILE: the bytes after the
 name. Sections after it are not looked at.
 
-FILE is read into memory.
+FILE is read into memory. Reading it takes up to twice its size.
 
 Options:
   --index N      Writes the N-th section of this name, counted from 1, if there
@@ -218,7 +229,8 @@ const ADD: &[u8] = b"usage: pulleynavy add [--replace] [-o OUT] NAME=DATA... FIL
 
 Writes FILE with a custom section after its other sections for each NAME=DATA:
 NAME is its name, and the file DATA, or standard input for '-', has its data.
-All other bytes stay as they are. If FILE is malformed, nothing is written.
+Only one of the files may be standard input. All other bytes stay as they are.
+If FILE is malformed, nothing is written.
 
 A regular FILE is read twice instead of being kept in memory: first to check
 it, then to write it. The data is read into memory.
@@ -230,7 +242,9 @@ Options:
   -o, --output OUT
                  Writes to OUT instead of standard output. OUT is replaced once
                  all of it is written, and may be FILE itself. It keeps its
-                 permissions, or gets those of FILE if it is new.
+                 owner and permissions as far as the system allows, but not its
+                 set-user-ID and set-group-ID bits. A new file gets the
+                 permissions of FILE.
   --no-progress  Shows no progress. For files above 64 MiB it is otherwise a
                  line on standard error, if that is a terminal.
   --             Ends the options: all arguments after it are files.
@@ -252,20 +266,24 @@ const PRODUCERS: &[u8] =
 
 Shows the custom section called 'producers' of FILE: the languages and tools
 that the module was produced with, as 'pulleynavy dump' shows them. With --set
-it writes FILE with other ones. All other sections stay as they are. If FILE is
-malformed, nothing is written.
+it writes FILE with other ones: in the first such section, or in a new one
+after the others. All other bytes stay as they are. If FILE is malformed,
+nothing is written.
 
-With --set FILE is read into memory.
+With --set FILE is read into memory. Reading it takes up to twice its size.
 
 Options:
   --set FIELD=NAME[:VERSION]
                  Sets the version of the language or tool NAME, or adds it.
-                 FIELD is 'language', 'processed-by' or 'sdk'. The option may
-                 be repeated. The section keeps its place, or is appended.
+                 FIELD is 'language', 'processed-by' or 'sdk', NAME is not
+                 empty, and VERSION is all after the first colon. The option
+                 may be repeated.
   -o, --output OUT
                  With --set, writes to OUT instead of standard output. OUT is
                  replaced once all of it is written, and may be FILE itself. It
-                 keeps its permissions, or gets those of FILE if it is new.
+                 keeps its owner and permissions as far as the system allows,
+                 but not its set-user-ID and set-group-ID bits. A new file gets
+                 the permissions of FILE.
   --no-progress  Shows no progress. For files above 64 MiB it is otherwise a
                  line on standard error, if that is a terminal.
   --             Ends the options: all arguments after it are files.

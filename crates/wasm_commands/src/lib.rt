@@ -4,6 +4,7 @@
 
 mod add;
 mod arguments;
+mod around;
 mod check;
 mod commands;
 mod dump;
@@ -23,7 +24,7 @@ mod system;
 
 pub use check::check_as;
 pub use commands::{run, run_host, run_program};
-pub use dump::{Colored, Format, dump_as};
+pub use dump::{Colored, Format, Titles, dump_as};
 pub use messages::Causes;
 pub use reasons::Cause;
 pub use streams::{Messages, Noting};

@@ -1,6 +1,7 @@
 // What the program says on standard error.
-ghost use Rattle.std.specs.Prelude.{◌≡◌, codes};
-ghost use Rattle.wasm_commands.specs.Messages.{Reports, command_text, complaint_text, failure_text, file_text, missing_text, name_shown, reason_if_any, refusal_text};
+ghost use Rattle.std.specs.Prelude.{◌≡◌, Some, codes};
+ghost use Rattle.wasm_base.specs.Message.{number_text};
+ghost use Rattle.wasm_commands.specs.Messages.{Reports, StopsAt, command_text, complaint_text, failure_text, fault_line, file_text, missing_text, name_shown, reason_if_any, refusal_text};
 ghost use Rattle.wasm_commands.specs.Messages.{about_word};
 ghost use Rattle.wasm_commands.specs.Reasons.{reason_of};
 ghost use Rattle.wasm_console.specs.Endings.{status_for};
@@ -10,8 +11,10 @@ ghost use Rattle.wasm_text.specs.Messages.{Says};
 use crate::arguments::Refusal;
 use crate::options::Verb;
 use crate::reasons::{Cause, words_if_any};
+use wasm_base::Error;
 use wasm_console::{say, status_of};
 use wasm_feed::{Ended, ListError, Sink};
+use wasm_text::{Base, write_number, write_offset, write_word};
 
 /// Why the devices of a run failed, as far as they said so.
 #[derive(Clone, Copy)]
@@ -102,6 +105,59 @@ pub(crate) fn refuse_target<E: Sink>(name: &str, causes: Causes, errors: &mut E)
     3
 }
 
+/// Says at which fault a file stops, as `check` says it. Returns the exit status 1.
+pub(crate) fn report_fault<E: Sink>(name: &str, error: &Error, errors: &mut E) -> u8
+    // Proved: a fault is reported with the program, the file, the offset, the message and the number
+    //   [`report_fault` (`StopsAt`, `fault_text`)]
+    ensures { StopsAt name.now error.now (device_of E.taken E.has_failed errors.old errors.new) result }
+{
+    let mut bytes = [0u8; 20];
+    let end = write_offset(&mut bytes, 0, Base::Hexadecimal, error.offset());
+    let message = error.message().as_bytes();
+    match error.number() {
+        Some(number) => say_number(shown_name(name), &bytes[..end], message, number, errors),
+        None => say_fault(shown_name(name), &bytes[..end], message, b"", errors),
+    }
+    1
+}
+
+// Says a fault with what comes after its message.
+fn say_fault<'a, E: Sink>(
+    name: &'a str,
+    offset: &'a [u8],
+    message: &'a [u8],
+    after: &'a [u8],
+    errors: &mut E,
+)
+    ensures { Says (device_of E.taken E.has_failed errors.old errors.new)
+        (fault_line name.now offset.now message.now after.now) }
+{
+    say(
+        errors,
+        &[
+            b"pulleynavy: ".as_slice(),
+            name.as_bytes(),
+            b": ",
+            offset,
+            b": ",
+            message,
+            after,
+            b"\n",
+        ],
+    );
+}
+
+// Says a fault with its number.
+fn say_number<E: Sink>(name: &str, offset: &[u8], message: &[u8], number: u64, errors: &mut E)
+    ensures { Says (device_of E.taken E.has_failed errors.old errors.new)
+        (fault_line name.now offset.now message.now (number_text (Some number))) }
+{
+    let mut bytes = [0u8; 22];
+    let start = write_word(&mut bytes, 0, ": ");
+    let end = write_number(&mut bytes, start, number);
+    say_fault(name, offset, message, &bytes[..end], errors);
+}
+
 /// Says that a section was not found in a file.
 pub(crate) fn warn_of_missing<E: Sink>(verb: Verb, name: &str, word: &str, errors: &mut E)
     ensures says { Says (device_of E.taken E.has_failed errors.old errors.new)
@@ -177,8 +233,10 @@ pub(crate) enum Complaint<'a> {
     UnknownOption(&'a str),
     /// There is no command.
     NoCommand,
-    /// The names of standard input can't be shown.
-    NamesOfInput,
+    /// The names of a file that can be read only once can't be shown.
+    NamesOf(&'a str),
+    /// Several operands of `add` are standard input.
+    InputTwice,
     /// An argument is not valid UTF-8.
     NotUtf8,
 }
@@ -294,12 +352,17 @@ pub(crate) fn complain<E: Sink>(complaint: Complaint<'_>, errors: &mut E) -> u8
                 b"usage: pulleynavy COMMAND [OPTION]... [FILE]...\nTry 'pulleynavy --help'.\n".as_slice(),
             ],
         ),
-        Complaint::NamesOfInput => say(
+        Complaint::NamesOf(name) => say(
             errors,
             &[
-                b"pulleynavy dump: --names reads each file twice, and standard input can't be: name files\n".as_slice(),
+                b"pulleynavy dump: --names reads each file twice, and ".as_slice(),
+                shown_name(name).as_bytes(),
+                b" can't be: name regular files\n",
             ],
         ),
+        Complaint::InputTwice => {
+            complain_of(Verb::Add, b"'", "-", b"' can be read only once", errors);
+        }
         Complaint::NotUtf8 => say(
             errors,
             &[b"pulleynavy: an argument is not valid UTF-8\n".as_slice()],

@@ -3,23 +3,24 @@ ghost use Rattle.std.specs.Prelude.{◌≡◌, ◌<◌, ◌^◌, ◌++◌, IfOk,
 ghost use Rattle.wasm_commands.specs.ArgumentLists.{has_option, values_in};
 ghost use Rattle.wasm_commands.specs.Commands.{Produces, ProducersBy, ShowsProducers};
 ghost use Rattle.wasm_commands.specs.Parsing.{reads_of, texts};
-ghost use Rattle.wasm_commands.specs.RewriteCommands.{FindsChange, SetsData, SetsFile, SetsNew, SetsProducers, edit_that_sets, is_setting, no_setting, wrong_setting};
+ghost use Rattle.wasm_commands.specs.RewriteCommands.{FindsChange, SetsFile, SetsIn, SetsProducers, SetsSection, is_setting, no_setting, wrong_setting};
+ghost use Rattle.wasm_commands.specs.Rewrites.{WritesBytesTo, target_in};
 ghost use Rattle.wasm_commands.specs.Systems.{IfAllocated, platform};
 ghost use Rattle.wasm_commands.specs.declared.options.Flag.TheVariants as option;
-ghost use Rattle.wasm_edits.specs.Encoded.{encoded};
+ghost use Rattle.wasm_edits.specs.Encoded.{Fits, encoded, encoded_section};
 ghost use Rattle.wasm_text.specs.Calls.{device_of, writer_device};
 
 use crate::arguments::Arguments;
+use crate::around::{Around, find_first};
 use crate::dump::show;
-use crate::extract::{Wanted, find};
-use crate::messages::{Complaint, complain};
+use crate::extract::{Wanted, find, write_joined};
+use crate::messages::{Complaint, complain, report_fault};
 use crate::options::{Flag, Verb};
-use crate::rewriting::{Original, hold, write_edited};
+use crate::rewriting::hold;
 use crate::system::System;
 use std::alloc::{AllocError, Global};
 use std::io::Write;
-use wasm_console::report_fault;
-use wasm_feed::{Edit, NewSection, Sink, WriteSink, all_fit};
+use wasm_feed::{NewSection, Sink, WriteSink, encode};
 use wasm_parser::{
     CustomSectionReader, ProducersField, ProducersFieldValue, ProducersSectionReader,
     Result as ParserResult,
@@ -42,7 +43,7 @@ struct Field<'a> {
     values: Vec<ProducersFieldValue<'a>>,
 }
 
-// Parses `FIELD=NAME` or `FIELD=NAME:VERSION`.
+// Parses `FIELD=NAME` or `FIELD=NAME:VERSION`. The name is not empty, and ends at the first colon.
 fn parse_setting(word: &str) -> Option<Setting<'_>>
     ensures { is_some result ≡ is_setting word.now }
 {
@@ -51,6 +52,9 @@ fn parse_setting(word: &str) -> Option<Setting<'_>>
         return None;
     }
     let (name, version) = value.split_once(':').unwrap_or((value, ""));
+    if name.is_empty() {
+        return None;
+    }
     let value = ProducersFieldValue { name, version };
     Some(Setting { field, value })
 }
@@ -205,101 +209,108 @@ fn changed_data<'a>(
     Ok(Ok(data_of(alloc, &fields)?))
 }
 
-// Returns the edit that sets a section.
-fn setting_edit<'a>(is_there: bool, new: NewSection<'a>) -> Edit<'a>
-    ensures { result ≡ edit_that_sets is_there new.entry }
-{
-    if is_there {
-        Edit::Replace(new)
-    } else {
-        Edit::Append(new)
-    }
-}
-
-// Writes a stream with a new section, in place of those with its name if there are any. Returns the exit status.
-fn write_new<S: System, W: Write, E: Sink>(
-    alloc: Global,
-    is_there: bool,
-    new: NewSection<'_>,
-    original: &Original<'_>,
-    arguments: &Arguments<'_>,
-    system: &S,
-    output: &mut WriteSink<W>,
-    errors: &mut E,
-) -> u8
-    ensures { SetsNew S.System S.Input.Source S.Output.Sink system.now (reads_of arguments.now)
-        (writer_device W.contents output.old output.new) output.new.forwarded
-        (device_of E.taken E.has_failed errors.old errors.new) is_there new.entry original.now
-        result }
-{
-    let edits = [setting_edit(is_there, new)];
-    if all_fit(&edits) {
-        write_edited(alloc, &edits, original, arguments, system, output, errors)
-    } else {
-        complain(Complaint::TooLarge(Verb::Producers, new.name), errors)
-    }
-}
-
-// Writes a stream with new data of the section. Returns the exit status.
-fn write_set<S: System, W: Write, E: Sink>(
-    alloc: Global,
-    is_there: bool,
-    bytes: &[u8],
-    original: &Original<'_>,
-    arguments: &Arguments<'_>,
-    system: &S,
-    output: &mut WriteSink<W>,
-    errors: &mut E,
-) -> u8
-    ensures { SetsData S.System S.Input.Source S.Output.Sink system.now (reads_of arguments.now)
-        (writer_device W.contents output.old output.new) output.new.forwarded
-        (device_of E.taken E.has_failed errors.old errors.new) is_there original.now result }
-{
-    let new = NewSection {
-        name: NAME,
-        data: bytes,
-    };
-    write_new(
-        alloc, is_there, new, original, arguments, system, output, errors,
-    )
-}
-
-// New data of the section, and whether the stream has one that they replace.
-#[derive(Drop)]
-struct NewData {
-    is_there: bool,
-    bytes: Vec<u8>,
-}
-
 // Returns the new data of the section of a stream.
-fn change_of(
+fn new_data(
     alloc: Global,
     bytes: &[u8],
     settings: &[Setting<'_>],
-) -> Result<ParserResult<NewData>, AllocError>
+) -> Result<ParserResult<Vec<u8>>, AllocError>
     ensures { IfOk result (λ change. FindsChange bytes.now change) }
 {
     let wanted = Wanted {
         name: NAME,
         before: 0,
     };
-    let section = match find(bytes, wanted) {
-        Ok(section) => section,
-        Err(error) => return Ok(Err(error)),
+    match find(bytes, wanted) {
+        Ok(section) => changed_data(alloc, &section, settings),
+        Err(error) => Ok(Err(error)),
+    }
+}
+
+// Writes a stream with this section between these bytes. Returns the exit status.
+fn write_between<S: System, W: Write, E: Sink>(
+    alloc: Global,
+    new: NewSection<'_>,
+    around: Around<'_>,
+    name: &str,
+    arguments: &Arguments<'_>,
+    system: &S,
+    output: &mut WriteSink<W>,
+    errors: &mut E,
+) -> Result<u8, AllocError>
+    requires { Fits new }
+    ensures { IfAllocated (WritesBytesTo S.System S.Input.Source S.Output.Sink system.now
+        (around.entry.before.now ++ (encoded_section new.entry ++ around.entry.after.now)) name.now
+        (target_in (reads_of arguments.now)) (writer_device W.contents output.old output.new)
+        output.new.forwarded (device_of E.taken E.has_failed errors.old errors.new))
+        (writer_device W.contents output.old output.new)
+        (device_of E.taken E.has_failed errors.old errors.new) result }
+{
+    let Ok(section) = encode(alloc, new) else {
+        return Err(AllocError);
     };
-    let bytes = match changed_data(alloc, &section, settings)? {
-        Ok(bytes) => bytes,
-        Err(error) => return Ok(Err(error)),
-    };
-    match section {
-        Some(_) => Ok(Ok(NewData {
-            is_there: true,
-            bytes,
-        })),
-        None => Ok(Ok(NewData {
-            is_there: false,
-            bytes,
-        })),
+    let parts = [around.before, section.as_slice(), around.after];
+    Ok(write_joined(alloc, &parts, arguments, system, name, output, errors))
+}
+
+// Writes a stream with this section in place of its first one with the name, or after its own sections. Returns the
+// exit status.
+fn write_set<S: System, W: Write, E: Sink>(
+    alloc: Global,
+    new: NewSection<'_>,
+    bytes: &[u8],
+    name: &str,
+    arguments: &Arguments<'_>,
+    system: &S,
+    output: &mut WriteSink<W>,
+    errors: &mut E,
+) -> Result<u8, AllocError>
+    requires { Fits new }
+    ensures { IfAllocated (SetsIn S.System S.Input.Source S.Output.Sink system.now
+        (reads_of arguments.now) (writer_device W.contents output.old output.new)
+        output.new.forwarded (device_of E.taken E.has_failed errors.old errors.new) new.entry
+        name.now bytes.now) (writer_device W.contents output.old output.new)
+        (device_of E.taken E.has_failed errors.old errors.new) result }
+{
+    // A slice is shorter than 2^64 bytes, which the proof wants to know.
+    let _length = bytes.len();
+    match find_first(bytes, new.name) {
+        Ok(Some(around)) => {
+            write_between(alloc, new, around, name, arguments, system, output, errors)
+        }
+        Ok(None) => {
+            let around = Around {
+                before: bytes,
+                after: b"",
+            };
+            write_between(alloc, new, around, name, arguments, system, output, errors)
+        }
+        Err(error) => Ok(report_fault(name, &error, errors)),
+    }
+}
+
+// Writes a stream with new data of the section, unless they are too large. Returns the exit status.
+fn write_new<S: System, W: Write, E: Sink>(
+    alloc: Global,
+    data: &[u8],
+    bytes: &[u8],
+    name: &str,
+    arguments: &Arguments<'_>,
+    system: &S,
+    output: &mut WriteSink<W>,
+    errors: &mut E,
+) -> Result<u8, AllocError>
+    ensures { IfAllocated (SetsSection S.System S.Input.Source S.Output.Sink system.now
+        (reads_of arguments.now) (writer_device W.contents output.old output.new)
+        output.new.forwarded (device_of E.taken E.has_failed errors.old errors.new) name.now
+        bytes.now) (writer_device W.contents output.old output.new)
+        (device_of E.taken E.has_failed errors.old errors.new) result }
+{
+    let new = NewSection { name: NAME, data };
+    if new.fits() {
+        write_set(alloc, new, bytes, name, arguments, system, output, errors)
+    } else {
+        Ok(complain(Complaint::TooLarge(Verb::Producers, NAME), errors))
     }
 }
 
@@ -323,26 +334,13 @@ fn change<S: System, W: Write, E: Sink>(
         Ok(bytes) => bytes,
         Err(status) => return Ok(status),
     };
-    let change = match change_of(alloc, &bytes, settings)? {
-        Ok(change) => change,
-        Err(error) => return Ok(report_fault(alloc, error, errors)),
+    let data = match new_data(alloc, &bytes, settings)? {
+        Ok(data) => data,
+        Err(error) => return Ok(report_fault(name, &error, errors)),
     };
-    let original = Original {
-        name,
-        held: Some(bytes),
-        is_checked: false,
-    };
-    let new = change.bytes.as_slice();
-    Ok(write_set(
-        alloc,
-        change.is_there,
-        new,
-        &original,
-        arguments,
-        system,
-        output,
-        errors,
-    ))
+    write_new(
+        alloc, &data, &bytes, name, arguments, system, output, errors,
+    )
 }
 
 // Runs `producers` with these values of `--set`. Returns the exit status.
@@ -356,9 +354,10 @@ fn set_all<S: System, W: Write, E: Sink>(
 ) -> Result<u8, AllocError>
     requires { texts words.now ≡ values_in option.Set (reads_of arguments.now) }
     // Proved: `producers --set` reads the file that is named, or standard input, and writes it with
-    //   a `producers` section in place of the first one, or at the end, to the output or to the file
-    //   of `--output`, which is replaced only if all was written; or it says why not. What the new
-    //   section holds is not stated [`set_all` (`SetsProducers`)]
+    //   a new `producers` section in place of the first that it has, or at the end, to the output or to
+    //   the file of `--output`, which is replaced only if all was written; or it says why not. All other
+    //   bytes stay. What the new section holds is not stated [`set_all` (`SetsProducers`:
+    //   `ReplacesFirst`)]
     ensures { SetsProducers S.System S.Input.Source S.Output.Sink system.now (reads_of arguments.now)
         (writer_device W.contents output.old output.new) output.new.forwarded
         (device_of E.taken E.has_failed errors.old errors.new) result }

@@ -9,14 +9,14 @@ ghost use Rattle.wasm_text.specs.Calls.{device_of, writer_device};
 mod twice;
 
 use crate::arguments::Arguments;
-use crate::messages::{refuse_file, refuse_run, refuse_target, report};
+use crate::messages::{refuse_file, refuse_run, refuse_target, report, report_fault};
 use crate::options::Flag;
 use crate::reasons::Cause;
 use crate::system::System;
 use std::alloc::Global;
 use std::io::Write;
 use twice::edit_twice;
-use wasm_console::{PIECE, read_all, report_fault};
+use wasm_console::{PIECE, read_all};
 use wasm_feed::{Edit, Ended, ListError, Sink, WriteSink, edit, edit_stream, write_all};
 use wasm_parser::Fault;
 
@@ -143,7 +143,6 @@ fn flushed<W: Write>(
 
 /// Returns the exit status of a run. Prints the fault of the stream, or why the run failed.
 pub(crate) fn answer<E: Sink>(
-    alloc: Global,
     name: &str,
     how: Result<Ended, ListError>,
     system: &impl System,
@@ -152,14 +151,13 @@ pub(crate) fn answer<E: Sink>(
     ensures { EndsRun name.now how (device_of E.taken E.has_failed errors.old errors.new) result }
 {
     match how {
-        Ok(Ended::Fault(error)) => report_fault(alloc, error, errors),
+        Ok(Ended::Fault(error)) => report_fault(name, &error, errors),
         _ => report(name, &how, system.causes(), errors),
     }
 }
 
 // Flushes what was written, and returns the exit status. Says why if the file could not be opened.
 fn end_output<W: Write, E: Sink>(
-    alloc: Global,
     name: &str,
     edited: Result<Result<Ended, ListError>, Cause>,
     system: &impl System,
@@ -172,7 +170,7 @@ fn end_output<W: Write, E: Sink>(
     match edited {
         Ok(how) => {
             let how = flushed(how, output);
-            answer(alloc, name, how, system, errors)
+            answer(name, how, system, errors)
         }
         Err(cause) => refuse_file(name, cause, errors),
     }
@@ -193,7 +191,7 @@ fn write_to_output<S: System, W: Write, E: Sink>(
         (device_of E.taken E.has_failed errors.old errors.new) result }
 {
     let edited = edit_original(alloc, edits, original, system, output);
-    end_output(alloc, original.name, edited, system, output, errors)
+    end_output(original.name, edited, system, output, errors)
 }
 
 /// Replaces a file by what was written, if the status is 0, and discards it otherwise. Returns the exit status.
@@ -215,7 +213,6 @@ pub(crate) fn end_target<S: System, E: Sink>(
 
 // Returns the exit status of a run that wrote a file. Prints the fault of the stream, or why the run failed.
 fn answer_file<E: Sink>(
-    alloc: Global,
     name: &str,
     target: &str,
     edited: Result<Result<Ended, ListError>, Cause>,
@@ -227,7 +224,7 @@ fn answer_file<E: Sink>(
 {
     match edited {
         Ok(Err(ListError::Output)) => refuse_target(target, system.causes(), errors),
-        Ok(how) => answer(alloc, name, how, system, errors),
+        Ok(how) => answer(name, how, system, errors),
         Err(cause) => refuse_file(name, cause, errors),
     }
 }
@@ -250,7 +247,7 @@ fn write_to_file<S: System, E: Sink>(
         Err(cause) => return refuse_file(target, cause, errors),
     };
     let edited = edit_original(alloc, edits, original, system, &mut output);
-    let status = answer_file(alloc, original.name, target, edited, system, errors);
+    let status = answer_file(original.name, target, edited, system, errors);
     end_target(status, target, output, system, errors)
 }
 

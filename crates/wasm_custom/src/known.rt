@@ -3,9 +3,9 @@ ghost use Rattle.std.specs.Prelude.{◌≡◌, false, IfOk, IfErr, is_err, codes
 ghost use Rattle.std.specs.List.{starts_with};
 ghost use Rattle.wasm_base.specs.FaultAt.{fault_at};
 ghost use Rattle.wasm_base.specs.Hints.{NotOutOfMemory, is_out_of_memory};
-ghost use Rattle.wasm_base.specs.Owned.{out_of_memory};
-ghost use Rattle.wasm_base.specs.Window.{place};
-ghost use Rattle.wasm_custom.specs.Known.{unknown, known_parts, known_of, owns_lists, branch_hints_in, producers_in, core_dump_in, core_modules_in, core_instances_in, core_stack_in, linking_section_in, relocations_in, KnowsUnlessMemory};
+ghost use Rattle.wasm_base.specs.Outcome.{GivesResult};
+ghost use Rattle.wasm_base.specs.Owned.{GivesResultUnlessMemory, out_of_memory};
+ghost use Rattle.wasm_custom.specs.Known.{unknown, known_parts, known_of, owns_lists, branch_hints_in, producers_in, core_dump_in, core_modules_in, core_instances_in, core_stack_in, linking_section_in, reading_of, relocations_in};
 
 use crate::branch_hinting::BranchHintSectionReader;
 use crate::coredumps::{
@@ -67,85 +67,66 @@ fn has_relocations(name: &str) -> bool
     name.starts_with("reloc.")
 }
 
-fn branch_hints<'a, A: Allocator>(window: BinaryReader<'a>) -> KnownCustom<'a, A>
-    ensures { known_parts result ≡ branch_hints_in window.entry }
+fn branch_hints<'a, A: Allocator>(window: BinaryReader<'a>) -> Result<KnownCustom<'a, A>>
+    ensures gives { GivesResult known_parts result (branch_hints_in window.entry) }
+    ensures memory { NotOutOfMemory result }
 {
-    match SectionLimited::new(window) {
-        Ok(functions) => KnownCustom::BranchHints(functions),
-        Err(_) => KnownCustom::Unknown,
-    }
+    Ok(KnownCustom::BranchHints(SectionLimited::new(window)?))
 }
 
-fn producers<'a, A: Allocator>(window: BinaryReader<'a>) -> KnownCustom<'a, A>
-    ensures { known_parts result ≡ producers_in window.entry }
+fn producers<'a, A: Allocator>(window: BinaryReader<'a>) -> Result<KnownCustom<'a, A>>
+    ensures gives { GivesResult known_parts result (producers_in window.entry) }
+    ensures memory { NotOutOfMemory result }
 {
-    match SectionLimited::new(window) {
-        Ok(fields) => KnownCustom::Producers(fields),
-        Err(_) => KnownCustom::Unknown,
-    }
+    Ok(KnownCustom::Producers(SectionLimited::new(window)?))
 }
 
-fn core_dump<'a, A: Allocator>(window: BinaryReader<'a>) -> KnownCustom<'a, A>
-    ensures { known_parts result ≡ core_dump_in window.entry }
+fn core_dump<'a, A: Allocator>(window: BinaryReader<'a>) -> Result<KnownCustom<'a, A>>
+    ensures gives { GivesResult known_parts result (core_dump_in window.entry) }
+    ensures memory { NotOutOfMemory result }
 {
-    match CoreDumpSection::new(window) {
-        Ok(section) => KnownCustom::CoreDump(section),
-        Err(_) => KnownCustom::Unknown,
-    }
+    Ok(KnownCustom::CoreDump(CoreDumpSection::new(window)?))
 }
 
-fn linking<'a, A: Allocator>(kept: Global, window: BinaryReader<'a>) -> KnownCustom<'a, A>
-    ensures { known_parts result ≡ linking_section_in window.entry }
+fn linking<'a, A: Allocator>(kept: Global, window: BinaryReader<'a>) -> Result<KnownCustom<'a, A>>
+    ensures gives { GivesResult known_parts result (linking_section_in window.entry) }
+    ensures memory { NotOutOfMemory result }
 {
-    match LinkingSectionReader::new(kept, window) {
-        Ok(section) => KnownCustom::Linking(section),
-        Err(_) => KnownCustom::Unknown,
-    }
+    Ok(KnownCustom::Linking(LinkingSectionReader::new(kept, window)?))
 }
 
-fn relocations<'a, A: Allocator>(window: BinaryReader<'a>) -> KnownCustom<'a, A>
-    ensures { known_parts result ≡ relocations_in window.entry }
+fn relocations<'a, A: Allocator>(window: BinaryReader<'a>) -> Result<KnownCustom<'a, A>>
+    ensures gives { GivesResult known_parts result (relocations_in window.entry) }
+    ensures memory { NotOutOfMemory result }
 {
-    match RelocSectionReader::new(window) {
-        Ok(section) => KnownCustom::Reloc(section),
-        Err(_) => KnownCustom::Unknown,
-    }
+    Ok(KnownCustom::Reloc(RelocSectionReader::new(window)?))
 }
 
 fn core_modules<'a, A: Allocator + Copy>(
     alloc: A,
     window: BinaryReader<'a>,
 ) -> Result<KnownCustom<'a, A>>
-    ensures { KnowsUnlessMemory result (core_modules_in window.entry) }
+    ensures { GivesResultUnlessMemory known_parts result (core_modules_in window.entry) }
 {
-    match CoreDumpModulesSection::new_in(alloc, window) {
-        Ok(section) => Ok(KnownCustom::CoreDumpModules(section)),
-        Err(error) => unknown_but_for_memory(error),
-    }
+    Ok(KnownCustom::CoreDumpModules(CoreDumpModulesSection::new_in(alloc, window)?))
 }
 
 fn core_instances<'a, A: Allocator + Copy>(
     alloc: A,
     window: BinaryReader<'a>,
 ) -> Result<KnownCustom<'a, A>>
-    ensures { KnowsUnlessMemory result (core_instances_in window.entry) }
+    ensures { GivesResultUnlessMemory known_parts result (core_instances_in window.entry) }
 {
-    match CoreDumpInstancesSection::new_in(alloc, window) {
-        Ok(section) => Ok(KnownCustom::CoreDumpInstances(section)),
-        Err(error) => unknown_but_for_memory(error),
-    }
+    Ok(KnownCustom::CoreDumpInstances(CoreDumpInstancesSection::new_in(alloc, window)?))
 }
 
 fn core_stack<'a, A: Allocator + Copy>(
     alloc: A,
     window: BinaryReader<'a>,
 ) -> Result<KnownCustom<'a, A>>
-    ensures { KnowsUnlessMemory result (core_stack_in window.entry) }
+    ensures { GivesResultUnlessMemory known_parts result (core_stack_in window.entry) }
 {
-    match CoreDumpStackSection::new_in(alloc, window) {
-        Ok(section) => Ok(KnownCustom::CoreDumpStack(section)),
-        Err(error) => unknown_but_for_memory(error),
-    }
+    Ok(KnownCustom::CoreDumpStack(CoreDumpStackSection::new_in(alloc, window)?))
 }
 
 // Converts an error of a section's reader: malformed data makes the section `Unknown`, and `OutOfMemory` is returned as a new
@@ -206,18 +187,59 @@ impl<'a> CustomSectionReader<'a> {
         ensures refused { IfErr result (λ e. fault_at e ≡ out_of_memory) }
         ensures memory { owns_lists self.now.name ≡ false → NotOutOfMemory result }
     {
+        match self.read_known_in(kept, alloc) {
+            Ok(known) => Ok(known),
+            Err(error) => unknown_but_for_memory(error),
+        }
+    }
+
+    /// Returns a reader for the data like `as_known`, but reports malformed data instead of returning `Unknown`.
+    ///
+    /// The result is `Unknown` only if the name is not known.
+    ///
+    /// # Errors
+    ///
+    /// * The fault of the `new` of the reader that the name selects, at its offset in bytes from the start of the stream.
+    /// * `OutOfMemory`, at offset 0, when an allocation fails.
+    ///
+    /// ```rattle
+    /// // A section `core` has to begin with the byte 0.
+    /// let section = CustomSectionReader::new(BinaryReader::new(b"\x04core\x01", 0))?;
+    /// match section.read_known(alloc) {
+    ///     Err(error) => assert_eq!(rt; error.offset(), 5),
+    ///     Ok(_) => assert!(rt; false),
+    /// }
+    /// ```
+    pub fn read_known(&self, alloc: Global) -> Result<KnownCustom<'a>>
+        // Proved: `read_known` returns the same reader as `as_known`, or the fault of its `new`
+        //   [`gives` (`reading_of`), `memory`]
+        ensures gives { GivesResultUnlessMemory known_parts result (reading_of self.now) }
+        ensures memory { owns_lists self.now.name ≡ false → NotOutOfMemory result }
+    {
+        self.read_known_in(alloc, alloc)
+    }
+
+    // Returns a reader for the data, with `alloc` for the lists of core dumps.
+    fn read_known_in<A: Allocator + Copy>(
+        &self,
+        kept: Global,
+        alloc: A,
+    ) -> Result<KnownCustom<'a, A>>
+        ensures gives { GivesResultUnlessMemory known_parts result (reading_of self.now) }
+        ensures memory { owns_lists self.now.name ≡ false → NotOutOfMemory result }
+    {
         let data = self.data_reader();
         match self.name() {
             "name" => Ok(KnownCustom::Name(NameSectionReader::new(kept, data))),
-            "metadata.code.branch_hint" => Ok(branch_hints(data)),
-            "producers" => Ok(producers(data)),
+            "metadata.code.branch_hint" => branch_hints(data),
+            "producers" => producers(data),
             "dylink.0" => Ok(KnownCustom::Dylink0(Subsections::new(kept, data))),
-            "core" => Ok(core_dump(data)),
+            "core" => core_dump(data),
             "coremodules" => core_modules(alloc, data),
             "coreinstances" => core_instances(alloc, data),
             "corestack" => core_stack(alloc, data),
-            "linking" => Ok(linking(kept, data)),
-            name if has_relocations(name) => Ok(relocations(data)),
+            "linking" => linking(kept, data),
+            name if has_relocations(name) => relocations(data),
             _ => Ok(KnownCustom::Unknown),
         }
     }

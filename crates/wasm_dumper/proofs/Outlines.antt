@@ -2,11 +2,12 @@
 use Rattle.wasm_dumper.proofs.Common.{◌≡◌, ℕ, Bool, true, false, List, [], ◌∷◌, ◌++◌, Some, None, Option, refl, sym, ap, subst, subst₂, ◌∙◌}
 use Rattle.wasm_dumper.proofs.Common.{list_any, if◌then◌else◌, nat_eq, import_id, Report, counted, Writing, Base, base_of, AddsFirst}
 use Rattle.wasm_dumper.proofs.Common.{numbered_line, is_chosen, after, no_counts, shows_items, ShowsItemsIf, Counts, Only}
-use Rattle.std.proofs.Common.{not, ◌&&◌, ◌||◌, bytes_eq, codes}
+use Rattle.std.proofs.Common.{Ok, Result, not, ◌&&◌, ◌||◌, bytes_eq, codes}
 use Rattle.std.specs.List.{starts_with}
 use Rattle.std.specs.String.{string_bytes}
+use Rattle.wasm_base.specs.FaultAt.{FaultAt}
 use Rattle.wasm_base.specs.Window.{Window, place, whole_window}
-use Rattle.wasm_custom.specs.Known.{Known, known_of, read_by_name, readings, relocations_in, unknown}
+use Rattle.wasm_custom.specs.Known.{Known, read_by_name, reading_of, readings, relocations_in, unknown}
 use Rattle.wasm_dumper.specs.Checks.{custom_of, faulty_if, shown_faulty}
 use Rattle.wasm_dumper.specs.Chosen.{is_chosen_by}
 use Rattle.wasm_dumper.specs.Dump.{ShowsReport}
@@ -17,7 +18,7 @@ use Rattle.wasm_dumper.specs.declared.hidden.Outline.TheVariants.{Custom, Hidden
 use Rattle.wasm_frames.specs.SkipNext.{Skip, custom, report_with, skip_in}
 use Rattle.wasm_grammar.specs.Reading.{code_entry, custom_section, unknown_section}
 use Rattle.wasm_lines.specs.Listing.{skip_text}
-use Rattle.wasm_show.specs.Faults.{custom_faulty, features_faulty, known_faulty}
+use Rattle.wasm_show.specs.Faults.{custom_faulty, features_faulty, read_faulty}
 use Rattle.wasm_tree.specs.Found.{Finds, FindsNone}
 use Rattle.wasm_dumper.proofs.Numbering.{no_bytes, shows_chosen, shows_unchosen}
 use Rattle.wasm_lines.proofs.ForCallers.{skipped_text}
@@ -98,9 +99,10 @@ both_true : (a b : Bool) → a && b ≡ true → (a ≡ true) × (b ≡ true)
 both_true true b e = (refl, e)
 both_true false b e = cc
 
-unread : (rows : List (List ℕ × (Window → Known))) (name : List ℕ) (w : Window) → list_any (λ row. bytes_eq name row.0) rows ≡ false
-    → starts_with nat_eq name (codes "reloc.") ≡ false → read_by_name rows name w ≡ unknown
-unread [] name w e n = ap (λ (b : Bool). if b then relocations_in w else unknown) n
+unread : (rows : List (List ℕ × (Window → Result Known FaultAt))) (name : List ℕ) (w : Window)
+    → list_any (λ row. bytes_eq name row.0) rows ≡ false
+    → starts_with nat_eq name (codes "reloc.") ≡ false → read_by_name rows name w ≡ Ok unknown
+unread [] name w e n = ap (λ (b : Bool). if b then relocations_in w else Ok unknown) n
 unread (row ∷ rows) name w e n =
     let (first, later) = either_false (bytes_eq name row.0) (list_any (λ row. bytes_eq name row.0) rows) e in
     ap (λ (b : Bool). if b then row.1 w else read_by_name rows name w) first ∙ unread rows name w later n
@@ -112,8 +114,8 @@ unknown_sound name at w e =
     let (rows, others) = either_false (list_any (λ row. bytes_eq name row.0) readings) (features || relocations) e in
     let (no_features, no_relocations) = either_false features relocations others in
     let section = custom_of name at w in
-    ap (λ (b : Bool). if b then features_faulty section else known_faulty (known_of section)) no_features
-    ∙ ap known_faulty (unread readings name (whole_window (place section.reader)) rows no_relocations)
+    ap (λ (b : Bool). if b then features_faulty section else read_faulty (reading_of section)) no_features
+    ∙ ap read_faulty (unread readings name (whole_window (place section.reader)) rows no_relocations)
 
 -- nothing is found of one whose items are not shown, or whose name is not known
 sound : (has_items : Bool) (name : List ℕ) (at : ℕ) (w : Window) → not (has_items && is_known name) ≡ true

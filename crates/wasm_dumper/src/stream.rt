@@ -33,6 +33,7 @@ use wasm_tree::{Offsets, Space, Tree, Within};
 fn within<'a>(payload: &Payload<'a>) -> Within<'a> {
     match payload {
         Payload::CustomSection(section) => Within::Custom(section.name()),
+        Payload::UnknownSection { id, range, .. } => Within::Unknown(*id, range.start),
         _ => match counted_name(payload) {
             Some(name) => Within::Section(name),
             None => Within::Stream,

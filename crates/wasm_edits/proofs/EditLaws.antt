@@ -1,6 +1,6 @@
 -- What is written of the events of an accepted stream is the edited stream.
 use Rattle.wasm_edits.proofs.Common.{◌≡◌, ℕ, ◌+◌, inl, inr, Bool, true, false, List, [], ◌∷◌, ◌++◌, length, refl, sym, arith, ap, ◌∙◌, ◌≤◌}
-use Rattle.wasm_edits.proofs.Common.{take, Ok, Err, Result, Error, Some, Feed}
+use Rattle.wasm_edits.proofs.Common.{take, drop, Ok, Err, Result, Error, Some, Feed}
 use Rattle.wasm_edits.proofs.Common.{append-nil, append_assoc, All-tail, All, flat_map, SectionFrame, frame_bytes, IsFrame, consumed_by}
 use Rattle.wasm_edits.proofs.Common.{all_features, Event, Encoding, last_event, ReadsEdited, IsStripped, stays_by, subst}
 use Rattle.std.proofs.lemmas.Grind.{flat_map-append}
@@ -9,7 +9,8 @@ use Rattle.wasm_edits.proofs.EditedSections.{accepted_with, sections_edited, sec
 use Rattle.wasm_edits.proofs.OnePass.{appended, bytes_of_appended, bytes_of_left, made_by, named_made, other_made, section_by_section}
 use Rattle.wasm_edits.proofs.SectionEvents.{NoneCustom, OtherOrCustom, events_here, is_custom}
 use Rattle.wasm_edits.proofs.StripLaws.{accepted_of, is_stripped, not_accepted, push_same}
-use Rattle.std.proofs.lemmas.List.{take_all}
+use Rattle.std.proofs.Math.ListN.{drop_of_length-le}
+use Rattle.std.proofs.lemmas.List.{take-append-drop}
 use Rattle.wasm_edits.specs.EditParts.{HasRoom, MovesKept, PartComes, WritesEdited}
 use Rattle.wasm_edits.specs.Edited.{EditingComposes, EditsStream, IsEdited, StrippingIsAnEdit, edited}
 use Rattle.wasm_edits.specs.Edits.{CanBeMade, after_edit, after_edits, bytes_as, edited_bytes, fate_by, new_bytes, report_fate}
@@ -32,7 +33,7 @@ use Rattle.wasm_grammar.specs.Reading.{Report, Stream, custom_section, events_of
 pub edited_more : (edits : List Edit) (xs ys : List Event) → edited_bytes edits (xs ++ ys) ≡ edited_bytes edits xs ++ edited_bytes edits ys
 edited_more edits xs ys = flat_map-append (λ e. bytes_as (report_fate edits e.report) e.consumed) xs ys
 
-other_report : (edits : List Edit) (r : Report) → is_custom r ≡ false → report_fate edits r ≡ Stays
+pub other_report : (edits : List Edit) (r : Report) → is_custom r ≡ false → report_fate edits r ≡ Stays
 other_report edits (custom_section text data_offset window) e = cc
 other_report edits _ e = refl
 
@@ -142,18 +143,21 @@ pub edited_is : (edits : List Edit) (stream result bytes : List ℕ) → All Can
 edited_is edits stream result bytes fits s i reads = written_is edits stream bytes i.accepted fits s reads ∙ sym i.bytes
 
 -- it was written to the front
-pub front_is : (edits : List Edit) (stream result new : List ℕ) (size : ℕ) → All CanBeMade edits → Stream stream 0
-    → IsEdited edits stream result → WritesEdited edits stream (Ok size) new → take (length result) new ≡ result
-front_is edits stream result new size fits s i (bytes, reads, n, written) =
+pub front_is : (edits : List Edit) (stream result old new : List ℕ) (size : ℕ) → All CanBeMade edits → Stream stream 0
+    → IsEdited edits stream result → WritesEdited edits stream old (Ok size) new → new ≡ result ++ drop (length result) old
+front_is edits stream result old new size fits s i (bytes, reads, n, written, rest) =
     let e : bytes ++ new_bytes edits ≡ result = edited_is edits stream result bytes fits s i reads in
     let k : size ≡ length result = n ∙ ap (λ (xs : List ℕ). length xs) e in
-    ap (λ (m : ℕ). take m new) (sym k) ∙ (written ∙ e)
+    let front : take size new ≡ result = written ∙ e in
+    sym (take-append-drop size new) ∙ (ap (λ (xs : List ℕ). xs ++ drop size new) front
+    ∙ (ap (λ (xs : List ℕ). result ++ xs) rest ∙ ap (λ (m : ℕ). result ++ drop m old) k))
 
 -- in all bytes
-pub all_is : (edits : List Edit) (stream result new : List ℕ) (size : ℕ) → All CanBeMade edits → Stream stream 0
-    → IsEdited edits stream result → WritesEdited edits stream (Ok size) new → length new ≡ length result → new ≡ result
-all_is edits stream result new size fits s i w l =
-    sym (take_all (length result) new (omega (arith, l))) ∙ front_is edits stream result new size fits s i w
+pub all_is : (edits : List Edit) (stream result old new : List ℕ) (size : ℕ) → All CanBeMade edits → Stream stream 0
+    → IsEdited edits stream result → WritesEdited edits stream old (Ok size) new → length old ≡ length result → new ≡ result
+all_is edits stream result old new size fits s i w l =
+    front_is edits stream result old new size fits s i w
+    ∙ (ap (λ (xs : List ℕ). result ++ xs) (drop_of_length-le old (omega (arith, l))) ∙ append-nil result)
 
 -- ---- laws
 

@@ -9,7 +9,7 @@ use Rattle.std.proofs.lemmas.List.{length-map}
 use Rattle.std.proofs.lemmas.List.Elements.{All-append, All-head, All-tail, All-cons, All-nil, All-map, All-weaker, filter-append}
 use Rattle.std.proofs.Math.ListN.{get_or-append, get_or-map}
 use Rattle.std.specs.List.{Any}
-use Rattle.wasm_edits.proofs.Encodings.{sections_back}
+use Rattle.wasm_edits.proofs.Encodings.{section_formed}
 use Rattle.wasm_edits.specs.Edits.{CanBeMade, after_edit, after_edits, is_named, is_other_than, name_is, replaced_by}
 use Rattle.wasm_edits.specs.Encoded.{Fits, frame_of}
 use Rattle.wasm_edits.specs.declared.edits.Edit.{Edit}
@@ -225,7 +225,7 @@ module _ (s : NewSection) (encoding : Encoding) where
       All-map Has (replaced_by s) frames (All-weaker Needs (λ f. Has (replaced_by s f)) has frames m)
 
   frame_here : (f : SectionFrame) → Fits s → IsFrame encoding f → CustomOrSame f → IsFrame encoding (replaced_by s f)
-  frame_here f fits i (inl (z, e)) = subst (IsFrame encoding) (sym e) (sections_back encoding s fits)
+  frame_here f fits i (inl (z, e)) = subst (IsFrame encoding) (sym e) (section_formed encoding s fits)
   frame_here f fits i (inr e) = subst (IsFrame encoding) (sym e) i
 
   sections_replaced : (frames : List SectionFrame) → Fits s → AreSections encoding frames
@@ -247,7 +247,7 @@ sections_after : (edit : Edit) (encoding : Encoding) (frames : List SectionFrame
 sections_after (Keep keep) encoding frames fits a = sections_kept (stays_by keep) encoding frames a
 sections_after (Remove name) encoding frames fits a = sections_kept (is_other_than name.now) encoding frames a
 sections_after (Append section) encoding frames fits a =
-    sections_more encoding frames (frame_of section) (sections_back encoding section fits) refl a
+    sections_more encoding frames (frame_of section) (section_formed encoding section fits) refl a
 sections_after (Replace section) encoding frames fits a = sections_replaced section encoding frames fits a
 
 -- the sections of an accepted stream are accepted after edits

@@ -1,6 +1,6 @@
 -- What encodings are read as.
 use Rattle.std.proofs.Common.{◌≡◌, ℕ, zero, suc, ◌+◌, ◌-◌, ◌*◌, ◌<◌, ◌≤◌, ◌/◌, ◌%◌, ◌^◌, true, List, [], ◌∷◌, ◌++◌, length, take}
-use Rattle.std.proofs.Common.{ap, sym, ◌∙◌, arith, Option, Some, None, slice_index, subst}
+use Rattle.std.proofs.Common.{ap, refl, sym, ◌∙◌, arith, Option, Some, None, slice_index, subst}
 use Rattle.std.proofs.Math.Nat.{pow-succ'}
 use Rattle.std.proofs.lemmas.Bool.{lt-ltb}
 use Rattle.std.proofs.Math.Seq.{take-append_seam}
@@ -11,6 +11,7 @@ use Rattle.std.proofs.Math.Seq.{drop-append_seam}
 use Rattle.std.specs.Str.{is_utf8}
 use Rattle.wasm_base.specs.Name.{after_size, name, name_limit, named}
 use Rattle.wasm_base.specs.declared.fault.NumberKind.TheVariants.{VarU32}
+use Rattle.wasm_edits.specs.EncodedLaws.{SectionsReadBack}
 use Rattle.wasm_edits.specs.Encoded.{leb, encoded, encoded_name, content_of, frame_of, Fits}
 use Rattle.wasm_edits.specs.declared.encoding.NewSection.{NewSection}
 use Rattle.wasm_grammar.specs.Accepted.{IsFrame, IsFormed, IsGood}
@@ -156,9 +157,25 @@ alone : (n : ℕ) → n < 2 ^ 32 → number VarU32 (encoded n) ≡ read n (lengt
 alone n h = let size : List ℕ = encoded n in
     subst (λ (xs : List ℕ). number VarU32 xs ≡ read n (length size)) (append-nil size) (reads_back n [] h)
 
-pub sections_back : (encoding : Encoding) (s : NewSection) → Fits s → IsFrame encoding (frame_of s)
-sections_back encoding s fits = record {
+pub section_formed : (encoding : Encoding) (s : NewSection) → Fits s → IsFrame encoding (frame_of s)
+section_formed encoding s fits = record {
   id = omega arith;
   sized = alone (length (content_of s)) fits.sized;
   content = good encoding s (s.name.now, length (encoded_name s.name.now), names_back s.name.now s.«data».now fits.text fits.short);
 }
+
+pub sections_back : SectionsReadBack
+sections_back encoding s fits = (
+  section_formed encoding s fits,
+  record {
+    of_id = refl;
+    prefix = encoded_name s.name.now;
+    parts = refl;
+    reads = names_back s.name.now s.«data».now fits.text fits.short;
+  },
+)
+
+-- a greater number takes no fewer bytes
+pub leb_longer : (m a b : ℕ) → a ≤ b → length (leb m a) ≤ length (leb m b)
+leb_longer zero a b l = omega arith
+leb_longer (suc m) a b l = grind (arith, leb_longer m (a / 128) (b / 128), leb_least m (b / 128))

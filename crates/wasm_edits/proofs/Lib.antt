@@ -2,13 +2,16 @@ pub mod Appended
 pub mod Common
 pub mod EditLaws
 pub mod EditProgress
+pub mod EditedReadings
 pub mod EditedSections
 pub mod EditTurns
 pub mod Encodings
+pub mod ForCallers
 pub mod KeptFrames
 pub mod KeptInPlace
 pub mod OnePass
 pub mod PartSteps
+pub mod RestStays
 pub mod SectionEvents
 pub mod ShortestNames
 pub mod StripLaws

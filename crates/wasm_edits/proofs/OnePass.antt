@@ -96,7 +96,7 @@ named_stays keeps text f n = rw (n.id, n.reads) refl
 named_is : (other text : List ℕ) (f : SectionFrame) → IsNamed text f → is_named other f ≡ bytes_eq text other
 named_is other text f n = rw (n.id, n.reads) refl
 
-made_is_named : (s : NewSection) → Fits s → IsNamed s.name.now (frame_of s)
+pub made_is_named : (s : NewSection) → Fits s → IsNamed s.name.now (frame_of s)
 made_is_named s fits = record {
   id = refl;
   used = length (encoded_name s.name.now);

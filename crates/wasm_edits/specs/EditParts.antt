@@ -76,11 +76,12 @@ abbrev pub HasRoom : List Edit → (stream out : List ℕ) → Type 0
 HasRoom edits stream out = (bytes : List ℕ) × ReadsEdited edits stream bytes
     × (length (bytes ++ new_bytes edits) ≤ length out)
 
--- It was written to the front.
-abbrev pub WritesEdited : List Edit → (stream : List ℕ) → Result ℕ Error → (new : List ℕ) → Type 0
-WritesEdited edits stream (Ok size) new = (bytes : List ℕ) × ReadsEdited edits stream bytes
+-- It was written to the front, and the bytes after it are as before.
+abbrev pub WritesEdited : List Edit → (stream old : List ℕ) → Result ℕ Error → (new : List ℕ) → Type 0
+WritesEdited edits stream old (Ok size) new = (bytes : List ℕ) × ReadsEdited edits stream bytes
     × (size ≡ length (bytes ++ new_bytes edits)) × (take size new ≡ bytes ++ new_bytes edits)
-WritesEdited edits stream (Err e) new = ⊥
+    × (drop size new ≡ drop size old)
+WritesEdited edits stream old (Err e) new = ⊥
 
 -- the kept bytes of a stream were moved to its front, and are this many, if it has no fault
 abbrev pub MovesKept : List Edit → (stream : List ℕ) → Result ℕ Error → (after : List ℕ) → Type 0

@@ -1,5 +1,5 @@
 -- Streams whose custom sections were edited. Core specification, Binary format, Modules, Custom Section.
-use Rattle.std.specs.Prelude.{◌≡◌, ◌≤◌, ◌<◌, ◌↔◌, ℕ, List, [], ◌∷◌, ◌++◌, Vec, Result, Ok, Err, flat_map, length, take}
+use Rattle.std.specs.Prelude.{◌≡◌, ◌≤◌, ◌<◌, ◌↔◌, ℕ, List, [], ◌∷◌, ◌++◌, Vec, Result, Ok, Err, drop, flat_map, length}
 use Rattle.wasm_base.specs.declared.error.Error.{Error}
 use Rattle.wasm_edits.specs.EditParts.{IsLength}
 use Rattle.wasm_edits.specs.Edits.{after_edits}
@@ -35,10 +35,10 @@ abbrev pub MeasuresEdited : List Edit → (stream : List ℕ) → Result ℕ Err
 MeasuresEdited edits stream (Ok size) = (result : List ℕ) × IsEdited edits stream result × IsLength size result
 MeasuresEdited edits stream (Err e) = (¬ IsAccepted stream) × EndsWithFault stream e
 
--- What was written to the front of other bytes: the edited stream, if there is room for it.
+-- What was written to the front of other bytes: the edited stream, if there is room for it. No other byte changed.
 abbrev pub IsWritten : (result old new : List ℕ) → Type 0
-IsWritten result old new = (length new ≡ length old)
-    × (length result ≤ length old → take (length result) new ≡ result) × (length old < length result → new ≡ old)
+IsWritten result old new = (length result ≤ length old → new ≡ result ++ drop (length result) old)
+    × (length old < length result → new ≡ old)
 
 -- The edited stream was written there, and this is its length, or the greatest number if that is less; or the stream
 -- is not accepted.

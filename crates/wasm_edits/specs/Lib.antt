@@ -1,5 +1,6 @@
 pub mod EditParts
 pub mod EditStream
+pub mod EditedReading
 pub mod Edited
 pub mod Edits
 pub mod Encoded

@@ -1,5 +1,5 @@
 // Editing streams in memory.
-ghost use Rattle.std.specs.Prelude.{◌≡◌, ◌+◌, ◌≤◌, ◌++◌, [], All, Ok, length, take, true};
+ghost use Rattle.std.specs.Prelude.{◌≡◌, ◌+◌, ◌≤◌, ◌++◌, [], All, Ok, drop, length, take, true};
 ghost use Rattle.wasm_edits.specs.EditParts.{GoesOn, HasRoom, IsLength, IsPartOf, PartFits, Passes, TakesPart, WritesEdited};
 ghost use Rattle.wasm_edits.specs.Edited.{EditsStream, EditsTo, MeasuresEdited};
 ghost use Rattle.wasm_edits.specs.Edits.{CanBeMade, CanBeWritten, added_by, bytes_as, new_bytes};
@@ -41,6 +41,7 @@ impl Part<'_> {
         ensures end { result ≡ at + length (bytes_as self.now.fate self.now.bytes.now) }
         ensures written { take result bytes.new
             ≡ take at bytes.old ++ bytes_as self.now.fate self.now.bytes.now }
+        ensures rest { drop result bytes.new ≡ drop result bytes.old }
         ensures len { length bytes.new ≡ length bytes.old }
     {
         match &self.fate {
@@ -120,6 +121,7 @@ fn write_new(edits: &[Edit<'_>], bytes: &mut [u8], at: usize) -> usize
     requires room { at + length (new_bytes edits.now) ≤ length bytes.old }
     ensures end { result ≡ at + length (new_bytes edits.now) }
     ensures written { take result bytes.new ≡ take at bytes.old ++ new_bytes edits.now }
+    ensures rest { drop result bytes.new ≡ drop result bytes.old }
     ensures len { length bytes.new ≡ length bytes.old }
 {
     let mut end = at;
@@ -158,7 +160,7 @@ pub fn edited_len<'a>(bytes: &'a [u8], edits: &[Edit<'a>]) -> Result<usize>
 fn write_edited<'a>(bytes: &'a [u8], edits: &[Edit<'a>], out: &mut [u8]) -> Result<usize>
     requires fits { All CanBeMade edits.now }
     requires room { HasRoom edits.now bytes.now out.old }
-    ensures { WritesEdited edits.now bytes.now result out.new }
+    ensures { WritesEdited edits.now bytes.now out.old result out.new }
 {
     let _length = bytes.len();
     let mut cursor = Cursor::over_all(StoredParser::new(0));

@@ -1,5 +1,5 @@
 // The bytes of custom sections.
-ghost use Rattle.std.specs.Prelude.{◌≡◌, ◌+◌, ◌<◌, ◌≤◌, ◌^◌, ◌++◌, ◌↔◌, IfErr, IfOk, IsTrue, length, take};
+ghost use Rattle.std.specs.Prelude.{◌≡◌, ◌+◌, ◌<◌, ◌≤◌, ◌^◌, ◌++◌, ◌↔◌, IfErr, IfOk, IsTrue, drop, length, take};
 ghost use Rattle.wasm_base.specs.FaultAt.{fault_at};
 ghost use Rattle.wasm_base.specs.Owned.{out_of_memory};
 ghost use Rattle.wasm_edits.specs.Encoded.{Fits, content_of, encoded, encoded_section};
@@ -24,6 +24,7 @@ fn write_number(bytes: &mut [u8], at: usize, number: u32) -> usize
     requires { at + length (encoded number) ≤ length bytes.old }
     ensures end { result ≡ at + length (encoded number) }
     ensures written { take result bytes.new ≡ take at bytes.old ++ encoded number }
+    ensures rest { drop result bytes.new ≡ drop result bytes.old }
     ensures len { length bytes.new ≡ length bytes.old }
 {
     let mut rest = number;
@@ -102,7 +103,9 @@ impl<'a> NewSection<'a> {
         requires fits { Fits self.now }
         requires room { at + length (encoded_section self.now) ≤ length bytes.old }
         ensures end { result ≡ at + length (encoded_section self.now) }
+        // Proved: writing a section changes no byte before or after it [`written`, `rest` of `write_at`]
         ensures written { take result bytes.new ≡ take at bytes.old ++ encoded_section self.now }
+        ensures rest { drop result bytes.new ≡ drop result bytes.old }
         ensures len { length bytes.new ≡ length bytes.old }
     {
         bytes[at] = 0;

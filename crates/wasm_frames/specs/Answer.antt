@@ -71,6 +71,13 @@ pub record GivesAnswer (old : ParserState) (eof : Bool) (rest : List ℕ) (given
 abbrev pub GivesFrame : (old : ParserState) (eof : Bool) (rest : List ℕ) → NextFrame → (new : ParserState) → Type 0
 GivesFrame old eof rest result new = GivesAnswer old eof rest (content_of result) new
 
+-- What a caller made of what `next` returns, and the state after the call.
+pub record GivesMade {Out : Type 0} (made : NextFrame → Out) (old : ParserState) (eof : Bool) (rest : List ℕ)
+    (given : Out) (new : ParserState) : Type 0 where
+  pub result : NextFrame
+  pub gives : GivesFrame old eof rest result new
+  pub is : given ≡ made result
+
 -- | what a call consumes: bytes of the input, and some except at the end
 -- A part consumes bytes that are there. The end consumes none, and any other part at least one.
 abbrev pub Consumes : List ℕ → Answer → Type 0

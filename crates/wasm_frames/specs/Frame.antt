@@ -2,8 +2,9 @@
 use Rattle.std.specs.Prelude.{◌≡◌, ℕ, ◌+◌, List, [], length, Option, IfSome, Ok}
 use Rattle.std.specs.Str.{IsUtf8}
 use Rattle.std.specs.declared.ops.Range.{Range}
+use Rattle.wasm_base.specs.Features.{all_features}
 use Rattle.wasm_base.specs.Number.{unsigned_at}
-use Rattle.wasm_base.specs.Window.{Window, Place, place, range_of}
+use Rattle.wasm_base.specs.Window.{Window, Place, place, range_of, window_over}
 use Rattle.wasm_base.specs.declared.fault.NumberKind.TheVariants.{VarU32}
 use Rattle.wasm_frames.specs.declared.kind.FrameKind.{FrameKind}
 use Rattle.wasm_frames.specs.declared.kind.FrameKind.TheVariants as kinds
@@ -17,6 +18,10 @@ use Rattle.wasm_grammar.specs.declared.encoding.Encoding.TheVariants.{Module}
 -- the window that a reader reads, from its first byte
 abbrev pub unread : Window → Window
 unread w = record w { position = 0 }
+
+-- that of no bytes
+abbrev pub no_window : Window
+no_window = window_over all_features 0 []
 
 -- A name is UTF-8, and its text, if it is kept too, has its bytes.
 pub record IsName (bytes : List ℕ) (text : Option (List ℕ)) : Type 0 where
@@ -133,14 +138,15 @@ pub record HoldsCount (id count : ℕ) (reader : Window) : Type 0 where
   pub known : kind_of Module id ≡ whole items
   pub reads : unsigned_at VarU32 (place (unread reader)) ≡ Ok (count, place reader)
 
--- The reader is that of the reported content, after its first fields.
+-- The reader is that of the reported content, after its first fields; of a part without content, one of no bytes.
 abbrev pub Reads : Report → Window → Type 0
 Reads (report.counted id count window) reader = HoldsCount id count reader × (window ≡ unread reader)
 Reads (report.code_entry window) reader = window ≡ reader
 Reads (report.custom_section name data_offset window) reader = custom_in name reader
     ≡ report.custom_section name data_offset window
-Reads (report.unknown_section id contents from to) reader = (place reader).rest ≡ contents
-Reads other reader = Unit {0}
+Reads (report.unknown_section id contents from to) reader =
+    (reader.bytes ≡ contents) × (reader.start ≡ from) × (reader.position ≡ 0)
+Reads other reader = reader ≡ no_window
 
 -- This is the offset of the data of a custom section, or of the first item of a section of items.
 abbrev pub StartsData : Report → (offset : ℕ) → Type 0

@@ -1,7 +1,7 @@
 // One part of a stream.
 ghost use Rattle.std.specs.Prelude.{◌≡◌, ◌+◌, ◌<◌, ◌^◌};
 ghost use Rattle.wasm_base.specs.Window.{place};
-ghost use Rattle.wasm_frames.specs.Frame.{HoldsCount, IsPart, Reads, StartsData, counted_in, count_in, custom_in, encoding_in, id_in, kind_in, name_in, range_in, size_in, unknown_in, unread, version_in};
+ghost use Rattle.wasm_frames.specs.Frame.{HoldsCount, IsPart, Reads, StartsData, counted_in, count_in, custom_in, encoding_in, id_in, kind_in, name_in, no_window, range_in, size_in, unknown_in, unread, version_in};
 ghost use Rattle.wasm_grammar.specs.Content.{ended};
 ghost use Rattle.wasm_grammar.specs.Reading.{version, start_section, data_count_section, code_start, code_entry, stream_end};
 
@@ -68,7 +68,9 @@ impl<'a> Model for Frame<'a> {
 
 // A reader of no bytes, for a frame without a window.
 #[inline(always)]
-fn no_bytes<'a>() -> BinaryReader<'a> {
+fn no_bytes<'a>() -> BinaryReader<'a>
+    ensures { result ≡ no_window }
+{
     BinaryReader::new(&[], 0)
 }
 
@@ -208,9 +210,10 @@ impl<'a> Frame<'a> {
         }
     }
 
-    /// Returns a section with an unknown id, whose content is what remains of this window.
+    /// Returns a section with an unknown id, whose content is this window.
     #[inline(always)]
     pub(crate) fn unknown(id: u8, reader: BinaryReader<'a>) -> Self
+        requires begins { reader.position ≡ 0 }
         ensures { result ≡ unknown_in id reader.entry }
     {
         let Range { start, end } = reader.range();
@@ -338,7 +341,8 @@ impl<'a> Frame<'a> {
     #[inline(always)]
     pub fn into_reader(self) -> BinaryReader<'a>
         // Proved: the reader of a frame is at the first item of a section of items, whose id is
-        //   that of such a section, and after the name of a custom section [`Reads`]
+        //   that of such a section, after the name of a custom section, and at the first byte of a
+        //   body or unknown section; that of another frame has no bytes [`Reads`]
         ensures { Reads self.entry result }
     {
         self.reader

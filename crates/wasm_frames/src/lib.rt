@@ -24,6 +24,6 @@ mod stored;
 pub use checkpoint::Checkpoint;
 pub use frame::Frame;
 pub use kind::FrameKind;
-pub use next::NextFrame;
+pub use next::{NextFrame, Outcome, Plain};
 pub use skipping::{PartHead, SkippedPart};
 pub use stored::StoredParser;

@@ -1,7 +1,7 @@
 // The parser of frames.
 ghost use Rattle.std.specs.Prelude.{◌≡◌, ◌+◌, ◌<◌, ◌^◌, not, true, [], length, nat_eq};
 ghost use Rattle.wasm_base.specs.Window.{place, window_over};
-ghost use Rattle.wasm_frames.specs.Answer.{AsksForSome, Consumes, FaultsWithin, GivesFrame, content_of};
+ghost use Rattle.wasm_frames.specs.Answer.{AsksForSome, Consumes, FaultsWithin, GivesFrame, GivesMade, content_of};
 ghost use Rattle.wasm_frames.specs.AsksWhereOpen.{AsksWhereOpen};
 ghost use Rattle.wasm_frames.specs.GivesNextEvent.{GivesNextEvent};
 ghost use Rattle.wasm_frames.specs.ParserState.{is_at_section as at_section};
@@ -12,7 +12,7 @@ ghost use Rattle.wasm_grammar.specs.KindInCode.{kind_is};
 
 use crate::frame::Frame;
 use crate::kind::FrameKind;
-use crate::next::NextFrame;
+use crate::next::{NextFrame, Outcome, Plain};
 use crate::parts::{
     SectionHead, code, content, lacks, missing_at_section, read_header, whole_custom,
     whole_unknown, window,
@@ -105,47 +105,62 @@ impl StoredParser {
         ensures answers { GivesFrame (numbers_of self.old) eof bytes.now result (numbers_of self.new) }
         ensures room { self.new.offset + self.new.code_bytes < 2 ^ 64 }
     {
+        self.next_as::<Plain<For>, AS_TEXT>(bytes, eof)
+    }
+
+    /// Does what `next_settled` does, and returns what `As` makes of the result.
+    pub fn next_as<'a, As: Outcome<'a>, const AS_TEXT: bool>(
+        &mut self,
+        bytes: &'a [u8],
+        eof: bool,
+    ) -> As::Out
+        requires room { self.old.offset + self.old.code_bytes < 2 ^ 64 }
+        ensures answers { GivesMade As.made (numbers_of self.old) eof bytes.now result
+            (numbers_of self.new) }
+        ensures room { self.new.offset + self.new.code_bytes < 2 ^ 64 }
+    {
         let start = self.offset;
         if !fits(start, bytes.len()) {
-            return NextFrame::Fault(Error::new(Fault::OffsetRange, start));
+            return As::of(NextFrame::Fault(Error::new(Fault::OffsetRange, start)));
         }
         if self.is_at_section() {
             if !eof {
                 if let Some(hint) = missing_at_section(bytes) {
-                    return NextFrame::NeedMoreData(hint);
+                    return As::of(NextFrame::NeedMoreData(hint));
                 }
             } else if bytes.is_empty() {
-                return self.end::<For>();
+                return As::of(self.end::<As>());
             }
         }
         let mut reader = self.reader(bytes);
         if self.expects_header() {
             let read = read_header(&mut reader);
-            return self.given(read, bytes, &reader, eof);
+            return self.given::<As>(read, bytes, &reader, eof);
         }
         if self.is_code_open() {
-            let read = self.body::<For>(&mut reader);
-            return self.given(read, bytes, &reader, eof);
+            let read = self.body::<As>(&mut reader);
+            return self.given::<As>(read, bytes, &reader, eof);
         }
-        self.section::<For, AS_TEXT>(bytes, &mut reader, eof)
+        self.section::<As, AS_TEXT>(bytes, &mut reader, eof)
     }
 
     // Moves past the frame that was read of these bytes, or refuses. In place, so that each kind of frame is looked at where
     // it is known.
     #[inline(always)]
-    fn given<'a>(
+    fn given<'a, As: Outcome<'a>>(
         &mut self,
         read: Result<Frame<'a>>,
         bytes: &'a [u8],
         reader: &BinaryReader<'a>,
         eof: bool,
-    ) -> NextFrame<'a>
+    ) -> As::Out
         requires fits { self.old.offset + length bytes.now < 2 ^ 64 }
         requires room { self.old.offset + self.old.code_bytes < 2 ^ 64 }
         requires begun { IsBegun (numbers_of self.old) eof bytes.now }
         requires reads { ReadsNext (numbers_of self.old) (place_of (numbers_of self.old) bytes.now)
             read (place reader.now) }
-        ensures answers { GivesFrame (numbers_of self.old) eof bytes.now result (numbers_of self.new) }
+        ensures answers { GivesMade As.made (numbers_of self.old) eof bytes.now result
+            (numbers_of self.new) }
         ensures room { self.new.offset + self.new.code_bytes < 2 ^ 64 }
     {
         match read {
@@ -153,47 +168,48 @@ impl StoredParser {
                 let end = reader.original_position();
                 let consumed = (end - self.offset) as usize;
                 self.advance(&frame, end);
-                NextFrame::Parsed { frame, consumed }
+                As::of(NextFrame::Parsed { frame, consumed })
             }
-            Err(error) => refused(error, eof),
+            Err(error) => As::of(refused(error, eof)),
         }
     }
 
     // Reads a section of these bytes, where one may start. Frequent kinds come first, each on its own.
-    fn section<'a, For, const AS_TEXT: bool>(
+    fn section<'a, As: Outcome<'a>, const AS_TEXT: bool>(
         &mut self,
         bytes: &'a [u8],
         reader: &mut BinaryReader<'a>,
         eof: bool,
-    ) -> NextFrame<'a>
+    ) -> As::Out
         requires fits { self.old.offset + length bytes.now < 2 ^ 64 }
         requires room { self.old.offset + self.old.code_bytes < 2 ^ 64 }
         requires begun { IsBegun (numbers_of self.old) eof bytes.now }
         requires at { place reader.old ≡ place_of (numbers_of self.old) bytes.now }
         requires closed { at_section (numbers_of self.old) ≡ true }
-        ensures answers { GivesFrame (numbers_of self.old) eof bytes.now result (numbers_of self.new) }
+        ensures answers { GivesMade As.made (numbers_of self.old) eof bytes.now result
+            (numbers_of self.new) }
         ensures room { self.new.offset + self.new.code_bytes < 2 ^ 64 }
     {
         let head = match self.section_head(reader) {
             Ok(head) => head,
-            Err(error) => return refused(error, eof),
+            Err(error) => return As::of(refused(error, eof)),
         };
         match head.kind {
             SectionKind::Custom => {
-                let read = whole_custom::<For, AS_TEXT>(head.id, head.size, reader);
-                self.given(read, bytes, reader, eof)
+                let read = whole_custom::<As, AS_TEXT>(head.id, head.size, reader);
+                self.given::<As>(read, bytes, reader, eof)
             }
             SectionKind::Unknown => {
-                let read = whole_unknown::<For>(head.id, head.size, reader);
-                self.given(read, bytes, reader, eof)
+                let read = whole_unknown::<As>(head.id, head.size, reader);
+                self.given::<As>(read, bytes, reader, eof)
             }
             SectionKind::Code => {
-                let read = code::<For>(self.functions(), head.size, reader);
-                self.given(read, bytes, reader, eof)
+                let read = code::<As>(self.functions(), head.size, reader);
+                self.given::<As>(read, bytes, reader, eof)
             }
             _ => {
-                let read = self.whole::<For>(head, reader);
-                self.given(read, bytes, reader, eof)
+                let read = self.whole::<As>(head, reader);
+                self.given::<As>(read, bytes, reader, eof)
             }
         }
     }

@@ -14,7 +14,7 @@ use Rattle.wasm_base.specs.declared.error.Error.{Error}
 use Rattle.wasm_custom.specs.BranchHinting.{function_hints_at}
 use Rattle.wasm_custom.specs.Custom.{Custom}
 use Rattle.wasm_custom.specs.Dylink0.{dylink_subsection_in}
-use Rattle.wasm_custom.specs.Known.{Known, known_of}
+use Rattle.wasm_custom.specs.Known.{Known, reading_of}
 use Rattle.wasm_custom.specs.Known as Knowns
 use Rattle.wasm_custom.specs.Linking.{LinkingParts, LinkingSection, listed, comdat_at, init_function_at, linking_parts}
 use Rattle.wasm_custom.specs.Linking.{linking_subsection_in, segment_at, symbol_at}
@@ -299,8 +299,13 @@ counted_features_faulty (Err f) = true
 abbrev pub features_faulty : Custom → Bool
 features_faulty section = counted_features_faulty (section_in (whole_window (place section.reader)))
 
--- Whether a custom section has a fault: the features of a module, and what is known by its name and its data. A
--- section with another name, or whose reader rejects the data, is unknown and has none.
+-- what was read of a section, or the fault of its reader
+abbrev pub read_faulty : Result Known FaultAt → Bool
+read_faulty (Ok known) = known_faulty known
+read_faulty (Err f) = true
+
+-- Whether a custom section has a fault: the features of a module, and what its name and its data say. It has one too if
+-- the reader for its name rejects the data. A section with another name has none.
 abbrev pub custom_faulty : Custom → Bool
 custom_faulty section = if bytes_eq section.name (codes "target_features") then features_faulty section
-    else known_faulty (known_of section)
+    else read_faulty (reading_of section)

@@ -2,7 +2,7 @@
 ghost use Rattle.std.specs.Prelude.{[], ◌∷◌, true};
 ghost use Rattle.wasm_custom.specs.Known.{known_parts};
 ghost use Rattle.wasm_show.specs.CustomText.{feature_fields, hint_fields, prefix_field, value_fields};
-ghost use Rattle.wasm_show.specs.Faults.{custom_faulty, features_faulty, known_faulty, name_section_faulty, producers_faulty};
+ghost use Rattle.wasm_show.specs.Faults.{FindsFault, custom_faulty, features_faulty, known_faulty, name_section_faulty, producers_faulty};
 ghost use Rattle.wasm_tree.specs.Found.{Finds, FindsNone};
 ghost use Rattle.wasm_tree.specs.Said.{SaysFields};
 ghost use Rattle.wasm_tree.specs.Tree.{Adds};
@@ -13,7 +13,7 @@ use crate::lists::{
 };
 use crate::show::Show;
 use std::alloc::Global;
-use wasm_base::{Error, Result, SectionLimitedIntoIterWithOffsets};
+use wasm_base::{Error, Fault, Result, SectionLimitedIntoIterWithOffsets};
 use wasm_custom::{
     BranchHint, BranchHintFunction, CustomSectionReader, KnownCustom, NameSectionReader,
     ProducersField, ProducersFieldValue, ProducersSectionReader, TargetFeature,
@@ -138,8 +138,9 @@ impl Show for NameSectionReader<'_> {
 /// Writes a custom section under the line of its event: a line with its name and, if it is known, its contents under
 /// that line.
 ///
-/// An unknown section, or one whose data its reader rejects, is shown as `unknown`. The section `target_features`, which
-/// `as_known` does not know, is shown with its features. The tree stops if an allocation fails.
+/// An unknown section, or one whose data its reader rejects, is shown as `unknown`. A tree that keeps faults alone is
+/// told the fault of that reader. The section `target_features`, which `as_known` does not know, is shown with its
+/// features. The tree stops if an allocation fails.
 ///
 /// ```rattle
 /// let section = CustomSectionReader::new(BinaryReader::new(b"\x04core\x00\x03app", 0))?;
@@ -158,9 +159,9 @@ pub fn show_custom<O: Tree>(alloc: Global, section: &CustomSectionReader<'_>, ou
     if section.name() == "target_features" {
         return show_features(section, out);
     }
-    match section.as_known(alloc) {
+    match section.read_known(alloc) {
         Ok(known) => show_known(1, &known, out),
-        Err(error) => show_fault(2, &error, out),
+        Err(error) => show_refused(&error, out),
     }
 }
 
@@ -175,14 +176,18 @@ fn show_features<O: Tree>(section: &CustomSectionReader<'_>, out: &mut O)
     }
 }
 
-// Writes that features could not be read, or the fault on a tree that keeps faults alone.
+// Writes that the reader of a section rejects its data, or the fault on a tree that keeps faults alone. At `OutOfMemory`
+// the tree stops.
 fn show_refused<O: Tree>(error: &Error, out: &mut O)
     ensures adds { Adds (O.writing out.old) (O.writing out.new) }
-    ensures found { Finds true (O.found out.old) (O.found out.new) }
+    ensures found { FindsFault error.now (O.found out.old) (O.found out.new) }
 {
-    out.label("known", "unknown");
     if O::ONLY_FAULTS {
-        show_fault(1, error, out);
+        return show_fault(1, error, out);
+    }
+    match error.fault() {
+        Fault::OutOfMemory => out.out_of_memory(),
+        _ => out.label("known", "unknown"),
     }
 }
 

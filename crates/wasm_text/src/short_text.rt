@@ -1,5 +1,5 @@
 // Short texts, which are written in place.
-ghost use Rattle.std.specs.Prelude.{◌≡◌, ℕ, ◌+◌, ◌≤◌, ◌++◌, List, length, take};
+ghost use Rattle.std.specs.Prelude.{◌≡◌, ℕ, ◌+◌, ◌≤◌, ◌++◌, List, drop, length, take};
 
 use crate::digits::write_number;
 
@@ -40,6 +40,7 @@ pub fn write_bytes(bytes: &mut [u8], at: usize, more: &[u8]) -> usize
     requires { at + length more.now ≤ length bytes.old }
     ensures end { result ≡ at + length more.now }
     ensures written { take result bytes.new ≡ take at bytes.old ++ more.now }
+    ensures rest { drop result bytes.new ≡ drop result bytes.old }
 {
     let end = at + more.len();
     bytes[at..end].copy_from_slice(more);

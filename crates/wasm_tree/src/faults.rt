@@ -24,8 +24,8 @@ enum Place {
 /// A tree that keeps faults alone: it writes a line for each malformed item to a sink. It buffers at most 65,536 bytes.
 ///
 /// A line is the prefix that was passed, the offset of the fault in hexadecimal digits, its message, its number, if it
-/// has one, and the section that the item is in. Names of custom sections are quoted as in lines. A quiet tree writes
-/// nothing. Either way `has_faults` returns whether there was a fault. Call `write_out` at the end to write the buffered
+/// has one, and the section that the item is in. Names of custom sections are quoted as in lines. A section with an
+/// unknown id has a line with the word `warning`, and is no fault. A quiet tree writes nothing. Either way `has_faults` returns whether there was a fault. Call `write_out` at the end to write the buffered
 /// lines.
 ///
 /// ```rattle
@@ -89,6 +89,39 @@ impl<W: Sink> Faults<W> {
         output.into_sink()
     }
 
+    // Writes the prefix of a line, and an offset.
+    fn put_offset(&mut self, offset: u64)
+        ensures goes { GoesOn self.old.output self.new.output }
+        ensures kept { self.new.has_found ≡ self.old.has_found }
+    {
+        self.output.put_long(self.prefix.as_bytes());
+        self.output.put_short(&Offset {
+            base: Base::Hexadecimal,
+            offset,
+        });
+    }
+
+    // Writes the line of a section whose id is unknown, which is no fault.
+    fn put_warning(&mut self, id: u8, offset: u64)
+        ensures goes { GoesOn self.old.output self.new.output }
+        ensures kept { self.new.has_found ≡ self.old.has_found }
+    {
+        self.put_offset(offset);
+        self.output.put_long(b": warning: unknown section id: ");
+        self.output.put_short(&u64::from(id));
+        self.output.put_long(b"\n");
+    }
+
+    // Writes that the id of a section is unknown, unless the tree is quiet.
+    fn warn(&mut self, id: u8, offset: u64)
+        ensures adds { Adds (faults self.old) (faults self.new) }
+        ensures found { FindsNone (found_by self.old) (found_by self.new) }
+    {
+        if !self.is_quiet {
+            self.put_warning(id, offset);
+        }
+    }
+
     // Writes where the items are.
     fn put_place(&mut self)
         ensures goes { GoesOn self.old.output self.new.output }
@@ -112,11 +145,7 @@ impl<W: Sink> Faults<W> {
         ensures goes { GoesOn self.old.output self.new.output }
         ensures kept { self.new.has_found ≡ self.old.has_found }
     {
-        self.output.put_long(self.prefix.as_bytes());
-        self.output.put_short(&Offset {
-            base: Base::Hexadecimal,
-            offset: error.offset(),
-        });
+        self.put_offset(error.offset());
         self.output.put_long(b": ");
         self.output.put_long(error.message().as_bytes());
         if let Some(number) = error.number() {
@@ -192,6 +221,7 @@ impl<W: Sink> Tree for Faults<W> {
         match within {
             Within::Stream => self.place = Place::Stream,
             Within::Section(name) => self.place = Place::Section(name),
+            Within::Unknown(id, offset) => self.warn(id, offset),
             Within::Custom(name) => match String::from_str(self.alloc, name) {
                 Ok(name) => self.place = Place::Custom(name),
                 Err(_) => self.output.out_of_memory(),

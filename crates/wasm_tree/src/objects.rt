@@ -65,6 +65,8 @@ pub struct Objects<W: Sink> {
     output: Output<W>,
     spot: Spot,
     names: Option<ItemNames>,
+    // The name of the file that the objects are about.
+    file: Option<String>,
 }
 
 impl<W: Sink> Objects<W> {
@@ -79,10 +81,34 @@ impl<W: Sink> Objects<W> {
     pub fn with_names(alloc: Global, output: W, names: Option<ItemNames>) -> Objects<W>
         ensures { objects result ≡ starts_objects (W.taken output) (W.has_failed output) }
     {
+        Objects::of_file(alloc, output, names, None)
+    }
+
+    /// Creates a tree of objects about a file, with names for items if there are any. If the name of the file is given,
+    /// the last member of each object is `file`, which has it.
+    ///
+    /// ```rattle
+    /// let file = String::from_str(alloc, "a.wasm")?;
+    /// let mut out = Objects::of_file(alloc, BoundedSink::new(alloc, 1000)?, None, Some(file));
+    /// out.line(1, "import");
+    /// out.write_out();
+    /// let output = out.into_output();
+    /// let wanted = b"{\"level\":1,\"line\":\"import\",\"file\":\"a.wasm\"}\n";
+    /// assert_eq!(rt; output.written(), wanted.as_slice());
+    /// ```
+    pub fn of_file(
+        alloc: Global,
+        output: W,
+        names: Option<ItemNames>,
+        file: Option<String>,
+    ) -> Objects<W>
+        ensures { objects result ≡ starts_objects (W.taken output) (W.has_failed output) }
+    {
         Objects {
             output: Output::new(alloc, output),
             spot: Spot::Outside,
             names,
+            file,
         }
     }
 
@@ -95,6 +121,7 @@ impl<W: Sink> Objects<W> {
             output,
             spot: _,
             names: _,
+            file: _,
         } = self;
         output.into_sink()
     }
@@ -213,6 +240,7 @@ impl<W: Sink> Objects<W> {
     fn begin_item(&mut self, level: usize, offset: u64)
         ensures { Adds (objects self.old) (objects self.new) }
     {
+        self.put_file();
         let start = ItemStart {
             spot: self.spot,
             level: level as u64,
@@ -227,6 +255,20 @@ impl<W: Sink> Objects<W> {
     {
         self.end();
         self.member("level", Value::Number(level as u64));
+    }
+
+    // Puts the name of the file at the end of an object, if one is begun and the name is known.
+    fn put_file(&mut self)
+        ensures { Adds (objects self.old) (objects self.new) }
+    {
+        if let Spot::Outside = self.spot {
+            return;
+        }
+        let file = self.file.take();
+        if let Some(name) = &file {
+            self.member("file", Value::Quoted(name.as_str()));
+        }
+        self.file = file;
     }
 
     // Puts the number of an item.
@@ -382,6 +424,7 @@ impl<W: Sink> Tree for Objects<W> {
 
     #[tactic(auto, using(crate::proofs::MemberTexts::end_leads))]
     fn end(&mut self) {
+        self.put_file();
         self.short(&object_end_of(self.spot), Spot::Outside);
     }
 

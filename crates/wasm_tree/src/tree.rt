@@ -85,6 +85,8 @@ pub enum Within<'a> {
     Section(&'static str),
     /// The custom section with this name.
     Custom(&'a str),
+    /// A section with an unknown id, whose content begins at this offset of the stream.
+    Unknown(u8, u64),
 }
 
 /// Whether lines leave out a field with this value: `false`, or no value.

@@ -77,8 +77,10 @@
  *
  * Structs never grow: a new field means a new struct with a new name.
  *
- * For x86-64 (v2) and aarch64 on Linux, and WebAssembly with 32-bit and 64-bit memory. Each trusts clang besides the proof, and the
- * 32-bit module binaryen too. Only x86-64 has a second compiler to compare with.
+ * Targets: Linux on x86-64 (v2), aarch64 and riscv64, Windows on x86-64 and arm64, macOS on x86-64 and arm64, FreeBSD on x86-64, and
+ * WebAssembly with 32-bit and 64-bit memory; C sources for other 64-bit little-endian machines. docs/PLATFORMS.md says how each was
+ * tested. Besides the proof each trusts clang or LLVM, the 32-bit module also binaryen, and the C sources also wasm2c. Only x86-64 Linux
+ * has a second compiler to compare with.
  *
  * The numbers of kinds, faults and flags never change.
  */

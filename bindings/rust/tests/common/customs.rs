@@ -276,5 +276,7 @@ pub fn known(section: &CustomSectionReader<'_>) -> String {
         KnownCustom::CoreDumpInstances(section) => owned(section.instances),
         KnownCustom::CoreDumpStack(section) => stack_text(section),
         KnownCustom::Unknown => "unknown".to_owned(),
+        // As in wasmparser, there may be more.
+        _ => "new".to_owned(),
     }
 }

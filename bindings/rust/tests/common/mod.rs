@@ -43,6 +43,27 @@ pub fn joined(texts: impl Iterator<Item = String>) -> String {
     texts.fold(String::new(), |all, text| all + &text + " ")
 }
 
+/// A sequence of numbers that look random.
+pub struct Random(u64);
+
+impl Random {
+    pub fn new() -> Random {
+        Random(0x9e37_79b9_7f4a_7c15)
+    }
+
+    pub fn below(&mut self, bound: usize) -> usize {
+        self.0 ^= self.0 << 13;
+        self.0 ^= self.0 >> 7;
+        self.0 ^= self.0 << 17;
+        (self.0 >> 11) as usize % bound
+    }
+}
+
+/// How many random inputs a test reads: `PULLEYNAVY_INPUTS` sets it.
+pub fn inputs(usual: usize) -> usize {
+    std::env::var("PULLEYNAVY_INPUTS").map_or(usual, |count| count.parse().unwrap())
+}
+
 /// A result as a text, or its fault.
 pub fn text_of<T>(result: Result<T>, show: impl FnOnce(T) -> String) -> String {
     result.map_or_else(|error| fault(&error), show)

@@ -3,6 +3,7 @@ mod heads;
 mod imports;
 mod instructions;
 mod items;
+mod leads;
 mod segments;
 
 use crate::tests::{is_printed, same};
@@ -37,6 +38,15 @@ fn an_expression_is_its_window(rt: HostRuntime) -> Result<(), Fail> {
     let reader = expression.get_binary_reader();
     same(&rt, reader.range(), 102..104);
     same(&rt, reader.remaining_range(), 103..104);
+    Ok(())
+}
+
+#[test]
+fn an_expression_of_a_long_number(rt: HostRuntime) -> Result<(), Fail> {
+    let mut reader = BinaryReader::new(b"\x41\xff\xff\xff\xff\x7f\x0b", 0);
+    let expression = reader.read::<ConstExpr<'_>>()?;
+    same(&rt, expression.range(), 0..7);
+    same(&rt, reader.original_position(), 7);
     Ok(())
 }
 

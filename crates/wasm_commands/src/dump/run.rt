@@ -15,6 +15,15 @@ use wasm_dumper::{Shown, dump};
 use wasm_feed::{Ended, ListError, Source, WriteSink};
 use wasm_tree::{ItemNames, Objects, TextLines};
 
+/// What a dump says of an input besides its bytes.
+#[derive(Drop)]
+pub struct Titles {
+    /// The name of the input, which each JSON object has as `file` if it is given.
+    pub file: Option<String>,
+    /// The names of items, if they are shown.
+    pub names: Option<ItemNames>,
+}
+
 // Flushes the output if the dump did not fail.
 fn forward_all<W: Write>(
     how: Result<Ended, ListError>,
@@ -32,12 +41,12 @@ fn forward_all<W: Write>(
     }
 }
 
-// Dumps these sections of the input as lines, with these names if there are any.
+// Dumps these sections of the input as lines.
 fn dump_lines<R: Source, W: Write>(
     alloc: Global,
     shown: Shown<'_>,
     format: Format,
-    names: Option<ItemNames>,
+    titles: Titles,
     input: &mut R,
     output: WriteSink<W>,
 ) -> (Result<Ended, ListError>, WriteSink<W>)
@@ -46,18 +55,18 @@ fn dump_lines<R: Source, W: Write>(
         (seen_as (has_colors format) (writer_device W.contents output result.1)) result.0 }
 {
     let colored = Colored::new(output, format.has_colors());
-    let mut tree = TextLines::with_names(alloc, colored, format.base(), names);
+    let mut tree = TextLines::with_names(alloc, colored, format.base(), titles.names);
     let how = dump(alloc, shown, input, &mut tree, PIECE);
     let colored = tree.into_output();
     (how, colored.into_inner())
 }
 
-// Dumps these sections of the input as JSON objects, with these names if there are any.
+// Dumps these sections of the input as JSON objects.
 fn dump_objects<R: Source, W: Write>(
     alloc: Global,
     shown: Shown<'_>,
     format: Format,
-    names: Option<ItemNames>,
+    titles: Titles,
     input: &mut R,
     output: WriteSink<W>,
 ) -> (Result<Ended, ListError>, WriteSink<W>)
@@ -65,7 +74,8 @@ fn dump_objects<R: Source, W: Write>(
     ensures { DumpsAs format shown.entry (device_of R.remaining R.has_failed input.old input.new)
         (seen_as (has_colors format) (writer_device W.contents output result.1)) result.0 }
 {
-    let mut tree = Objects::with_names(alloc, output, names);
+    let Titles { file, names } = titles;
+    let mut tree = Objects::of_file(alloc, output, names, file);
     let how = dump(alloc, shown, input, &mut tree, PIECE);
     (how, tree.into_output())
 }
@@ -75,7 +85,7 @@ fn dump_over<R: Source, W: Write>(
     alloc: Global,
     shown: Shown<'_>,
     format: Format,
-    names: Option<ItemNames>,
+    titles: Titles,
     input: &mut R,
     output: WriteSink<W>,
 ) -> (Result<Ended, ListError>, WriteSink<W>)
@@ -83,17 +93,16 @@ fn dump_over<R: Source, W: Write>(
         (seen_as (has_colors format) (writer_device W.contents output result.1)) result.0 }
 {
     if format.is_json {
-        dump_objects(alloc, shown, format, names, input, output)
+        dump_objects(alloc, shown, format, titles, input, output)
     } else {
-        dump_lines(alloc, shown, format, names, input, output)
+        dump_lines(alloc, shown, format, titles, input, output)
     }
 }
 
 /// Writes the dump of the input in a format, flushes the output, and returns how the stream ended, and the
 /// output.
 ///
-/// `shown` chooses the events, and `names` has the names of items, if there are any. With colors, the output is the dump
-/// with escape sequences between its bytes.
+/// `shown` chooses the events. With colors, the output is the dump with escape sequences between its bytes.
 ///
 /// # Errors
 ///
@@ -104,7 +113,8 @@ fn dump_over<R: Source, W: Write>(
 /// let mut text = Vec::new(alloc);
 /// let output = WriteSink::new(&mut text);
 /// let shown = Shown { only: &[Only::All], has_bytes: false, found: &[] };
-/// let (ended, _) = dump_as(alloc, shown, Format::new(), None, &mut input, output);
+/// let titles = Titles { file: None, names: None };
+/// let (ended, _) = dump_as(alloc, shown, Format::new(), titles, &mut input, output);
 /// assert_eq!(rt; ended, Ok(Ended::End));
 /// assert_eq!(rt; text.as_slice(), b"version 0 8 1 module\nend 8\n".as_slice());
 /// ```
@@ -112,7 +122,7 @@ pub fn dump_as<R: Source, W: Write>(
     alloc: Global,
     shown: Shown<'_>,
     format: Format,
-    names: Option<ItemNames>,
+    titles: Titles,
     input: &mut R,
     output: WriteSink<W>,
 ) -> (Result<Ended, ListError>, WriteSink<W>)
@@ -125,7 +135,7 @@ pub fn dump_as<R: Source, W: Write>(
         (seen_as (has_colors format) (writer_device W.contents output result.1))
         result.1.forwarded result.0 }
 {
-    let (how, mut output) = dump_over(alloc, shown, format, names, input, output);
+    let (how, mut output) = dump_over(alloc, shown, format, titles, input, output);
     let result = forward_all(how, &mut output);
     (result, output)
 }

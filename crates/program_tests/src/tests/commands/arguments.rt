@@ -45,11 +45,18 @@ fn names_the_option_that_is_wrong(rt: HostRuntime) -> Result<(), Fail> {
     all_refused(&rt, alloc, &UNKNOWN, said)?;
     let said = b"pulleynavy strip: unknown option '-x'\nTry 'pulleynavy strip --help'.\n";
     all_refused(&rt, alloc, &[&["strip", "-x"]], said)?;
-    // Options of other commands, and values that are attached to short ones.
+    // Options of other commands, and what is attached to short ones that take no value.
     let said = b"pulleynavy check: unknown option '--json'\nTry 'pulleynavy check --help'.\n";
     all_refused(&rt, alloc, &[&["check", "--json"]], said)?;
-    let said = b"pulleynavy strip: unknown option '-o=a'\nTry 'pulleynavy strip --help'.\n";
-    all_refused(&rt, alloc, &[&["strip", "-o=a"]], said)?;
+    let said = b"pulleynavy list: unknown option '-oa'\nTry 'pulleynavy list --help'.\n";
+    all_refused(&rt, alloc, &[&["list", "-oa"]], said)?;
+    let said = b"pulleynavy check: unknown option '-qa'\nTry 'pulleynavy check --help'.\n";
+    all_refused(
+        &rt,
+        alloc,
+        &[&["check", "-qa"], &["check", "a", "-qa"]],
+        said,
+    )?;
     let said =
         b"pulleynavy dump: option '--section' needs a value\nTry 'pulleynavy dump --help'.\n";
     all_refused(&rt, alloc, &NO_VALUE, said)?;
@@ -82,7 +89,7 @@ fn refuses_what_excludes_each_other(rt: HostRuntime) -> Result<(), Fail> {
         said,
     )?;
     let said =
-        b"pulleynavy dump: --names reads each file twice, and standard input can't be: name files\n";
+        b"pulleynavy dump: --names reads each file twice, and standard input can't be: name regular files\n";
     let rows: [&[&str]; 3] = [
         &["dump", "--names"],
         &["dump", "--names", "-"],

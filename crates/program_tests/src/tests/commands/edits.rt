@@ -25,10 +25,50 @@ const MORE: &[u8] =
 const FIRST: &[u8] =
     b"\0asm\x01\0\0\0\0\x02\x01a\x01\x01\0\0\x03\x01bB\0\x1d\x09producers\x01\x0cprocessed-by\x01\x02cc\0";
 
+// A module with two such sections, and the same after the version in the first one was set.
+const BOTH: &[u8] =
+    b"\0asm\x01\0\0\0\0\x1f\x09producers\x01\x08language\x01\x04Rust\x041.85\x01\x01\0\0\x13\x09producers\x01\x03sdk\x01\x01x\0";
+
+const FIRST_NEWER: &[u8] =
+    b"\0asm\x01\0\0\0\0\x1f\x09producers\x01\x08language\x01\x04Rust\x041.90\x01\x01\0\0\x13\x09producers\x01\x03sdk\x01\x01x\0";
+
+// `PRODUCED` with a length in more bytes than it takes.
+const LONGER: &[u8] =
+    b"\0asm\x01\0\0\0\0\x9f\x80\0\x09producers\x01\x08language\x01\x04Rust\x041.85\x01\x01\0";
+
+// A fault after the section.
+const CUT: &[u8] =
+    b"\0asm\x01\0\0\0\0\x1f\x09producers\x01\x08language\x01\x04Rust\x041.85\x01\x01\0\xff";
+
 // A section whose field is none of those that there are.
 const STRANGE: &[u8] = b"\0asm\x01\0\0\0\0\x0f\x09producers\x01\x02no\0";
 
-const NAMED: [Named<'static>; 6] = [
+const NAMED: [Named<'static>; 11] = [
+    Named {
+        name: "both",
+        bytes: BOTH,
+        is_regular: true,
+    },
+    Named {
+        name: "longer",
+        bytes: LONGER,
+        is_regular: false,
+    },
+    Named {
+        name: "cut",
+        bytes: CUT,
+        is_regular: true,
+    },
+    Named {
+        name: "more",
+        bytes: MORE,
+        is_regular: true,
+    },
+    Named {
+        name: "later",
+        bytes: LATER,
+        is_regular: true,
+    },
     Named {
         name: "produced",
         bytes: PRODUCED,
@@ -61,6 +101,17 @@ const NAMED: [Named<'static>; 6] = [
     },
 ];
 
+// `MORE` with another tool in a field that has one, whose name has more bytes than characters.
+const WIDER: &[u8] =
+    b"\0asm\x01\0\0\0\0\x36\x09producers\x02\x08language\x02\x04Rust\x041.85\x01C\0\x03sdk\x02\x01x\x011\x08\xc3\x9cnicode\x011\x01\x01\0";
+
+// A version begins after the first colon, and a name after the first equals sign.
+const COLONS: &[u8] =
+    b"\0asm\x01\0\0\0\0\x02\x01a\x01\x01\0\0\x03\x01bB\0\x23\x09producers\x01\x0cprocessed-by\x02\x01a\x03b:c\x01d\x01=";
+
+// A header with the version 2.
+const LATER: &[u8] = b"\0asm\x02\0\0\0";
+
 /// Arguments, and what a run returns, writes and says.
 type Row = (&'static [&'static str], u8, &'static [u8], &'static [u8]);
 
@@ -69,7 +120,7 @@ const ADDED: &[u8] = b"\0asm\x01\0\0\0\0\x02\x01a\x01\x01\0\0\x03\x01bB\0\x05\x0
 const REPLACED: &[u8] = b"\0asm\x01\0\0\0\0\x05\x01axyz\x01\x01\0\0\x03\x01bB\0\x05\x01cxyz";
 
 const FAULT: &[u8] =
-    b"function section has non-zero count but code section is absent (at offset 0xc)\n";
+    b"pulleynavy: bad: 0xc: function section has non-zero count but code section is absent\n";
 
 const ROWS: [Row; 12] = [
     (&["add", "c=data", "file"], 0, ADDED, b""),
@@ -111,7 +162,36 @@ const ROWS: [Row; 12] = [
     ),
 ];
 
-const PRODUCERS: [Row; 9] = [
+// Standard input can be read only once.
+const TWICE: &[u8] = b"pulleynavy add: '-' can be read only once\nTry 'pulleynavy add --help'.\n";
+
+#[test]
+fn reads_standard_input_once(rt: HostRuntime) -> Result<(), Fail> {
+    let files = Files::new(b"xyz", &NAMED);
+    let alloc = rt.alloc();
+    for words in [
+        ["add", "c=-", "d=-", "file"].as_slice(),
+        &["add", "c=-", "-"],
+        &["add", "--replace", "c=data", "d=-", "-"],
+    ] {
+        answers(&rt, alloc, words, &files, (2, b"", TWICE))?;
+    }
+    answers(&rt, alloc, &["add", "c=-", "file"], &files, (0, ADDED, b""))
+}
+
+const PRODUCERS: [Row; 14] = [
+    (
+        &["producers", "--set", "language="],
+        2,
+        b"",
+        b"pulleynavy producers: wrong value 'language=' of option '--set'\n",
+    ),
+    (
+        &["producers", "--set=sdk=:1"],
+        2,
+        b"",
+        b"pulleynavy producers: wrong value 'sdk=:1' of option '--set'\n",
+    ),
     (
         &["producers", "--set", "language=Rust:1.90", "produced"],
         0,
@@ -145,10 +225,34 @@ const PRODUCERS: [Row; 9] = [
     ),
     (&["producers", "--set", "sdk=x", "bad"], 1, b"", FAULT),
     (
+        &["producers", "--set", "sdk=x", "later"],
+        1,
+        b"",
+        b"pulleynavy: later: 0x4: unknown binary version: 2\n",
+    ),
+    (
+        &["producers", "--set", "sdk=Ünicode:1", "more"],
+        0,
+        WIDER,
+        b"",
+    ),
+    (
+        &[
+            "producers",
+            "--set",
+            "processed-by=a:b:c",
+            "--set",
+            "processed-by=d:=",
+        ],
+        0,
+        COLONS,
+        b"",
+    ),
+    (
         &["producers", "--set", "sdk=x", "strange"],
         1,
         b"",
-        b"invalid producers field name (at offset 0x15)\n",
+        b"pulleynavy: strange: 0x15: invalid producers field name\n",
     ),
     (
         &["producers", "--set", "tool=x:1"],
@@ -170,6 +274,50 @@ fn sets_producers(rt: HostRuntime) -> Result<(), Fail> {
     for (words, status, written, said) in PRODUCERS {
         answers(&rt, rt.alloc(), words, &files, (status, written, said))?;
     }
+    Ok(())
+}
+
+const FIRST_ROWS: [Row; 4] = [
+    (
+        &["producers", "--set", "language=Rust:1.90", "both"],
+        0,
+        FIRST_NEWER,
+        b"",
+    ),
+    (
+        &["producers", "--set", "language=Rust:1.90", "longer"],
+        0,
+        NEWER,
+        b"",
+    ),
+    (
+        &["producers", "--set", "language=Rust:1.90", "cut"],
+        1,
+        b"",
+        b"pulleynavy: cut: 0x2c: malformed section id\n",
+    ),
+    (
+        &[
+            "producers",
+            "--set",
+            "language=Rust:1.90",
+            "both",
+            "-o",
+            "out",
+        ],
+        0,
+        b"",
+        b"",
+    ),
+];
+
+#[test]
+fn sets_the_first_section_alone(rt: HostRuntime) -> Result<(), Fail> {
+    let files = Files::new(STREAM, &NAMED);
+    for (words, status, written, said) in FIRST_ROWS {
+        answers(&rt, rt.alloc(), words, &files, (status, written, said))?;
+    }
+    assert_eq!(rt; files.replaced.get(), Some(FIRST_NEWER.len()));
     Ok(())
 }
 

@@ -11,12 +11,13 @@ custom 20 26 25 \"type\"
 end 26
 ";
 
-const OBJECTS: &[u8] = b"{\"event\":\"version\",\"range\":[0,8],\"num\":1,\"encoding\":\"module\"}
-{\"event\":\"section\",\"range\":[10,12],\"id\":3,\"name\":\"function\",\"count\":1}
-{\"event\":\"section\",\"range\":[14,18],\"id\":10,\"name\":\"code\",\"count\":1,\"size\":3}
-{\"event\":\"body\",\"range\":[16,18],\"space\":\"func\",\"number\":0}
-{\"event\":\"section\",\"range\":[20,26],\"id\":0,\"name\":\"custom\",\"custom_name\":\"type\",\"data_offset\":25}
-{\"event\":\"end\",\"offset\":26}
+const OBJECTS: &[u8] =
+    b"{\"event\":\"version\",\"range\":[0,8],\"num\":1,\"encoding\":\"module\",\"file\":\"-\"}
+{\"event\":\"section\",\"range\":[10,12],\"id\":3,\"name\":\"function\",\"count\":1,\"file\":\"-\"}
+{\"event\":\"section\",\"range\":[14,18],\"id\":10,\"name\":\"code\",\"count\":1,\"size\":3,\"file\":\"-\"}
+{\"event\":\"body\",\"range\":[16,18],\"space\":\"func\",\"number\":0,\"file\":\"-\"}
+{\"event\":\"section\",\"range\":[20,26],\"id\":0,\"name\":\"custom\",\"custom_name\":\"type\",\"data_offset\":25,\"file\":\"-\"}
+{\"event\":\"end\",\"offset\":26,\"file\":\"-\"}
 ";
 
 #[test]

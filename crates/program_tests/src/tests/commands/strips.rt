@@ -41,7 +41,7 @@ fn strips_as_options_say(rt: HostRuntime) -> Result<(), Fail> {
 }
 
 const FAULT: &[u8] =
-    b"function section has non-zero count but code section is absent (at offset 0xc)\n";
+    b"pulleynavy: bad: 0xc: function section has non-zero count but code section is absent\n";
 
 const NAMED: [Named<'static>; 3] = [
     Named {
@@ -113,6 +113,8 @@ fn replaces_a_file_once_it_is_complete(rt: HostRuntime) -> Result<(), Fail> {
         Some(8),
         0,
     )?;
+    writes(&rt, alloc, &["strip", "-oout", "a"], (0, b""), Some(8), 0)?;
+    writes(&rt, alloc, &["strip", "-o=x", "a"], (0, b""), Some(8), 0)?;
     writes(
         &rt,
         alloc,

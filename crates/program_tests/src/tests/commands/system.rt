@@ -122,7 +122,7 @@ impl<'a> System for Files<'a> {
     fn is_regular(&self, name: &str) -> bool {
         match found(self.named, name) {
             Some(file) => file.is_regular,
-            None => false,
+            None => name == "broken",
         }
     }
 

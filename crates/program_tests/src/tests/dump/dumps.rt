@@ -8,6 +8,7 @@ use std::test::Fail;
 use wasm_dumper::{Only, Shown, dump};
 use wasm_feed::{BoundedSink, Ended, Failed, ListError, SliceSource, Source};
 use wasm_parser::{Error, Fault};
+use wasm_testing::Measuring;
 use wasm_tree::TextLines;
 
 /// A module with an item in each of its sections, and names that don't ascend.
@@ -70,9 +71,11 @@ pub(super) fn dumps(
 ) -> Result<(), Fail> {
     for piece in [1, 7, 65_536] {
         let sink = BoundedSink::new(alloc, 6_000)?;
-        let (ended, output) = dumped(alloc, only, &mut SliceSource::new(stream), sink, piece);
+        let mut input = Measuring::new(stream);
+        let (ended, output) = dumped(alloc, only, &mut input, sink, piece);
         assert!(rt; ended == how, "{piece}");
         assert_eq!(rt; output.written(), text, "{piece}");
+        assert_eq!(rt; input.measured(), (piece, piece));
     }
     Ok(())
 }

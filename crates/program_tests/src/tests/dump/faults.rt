@@ -147,7 +147,7 @@ const UNORDERED_FAULTS: &[u8] = b"0x16: names out of order, in custom section \"
 
 // The version of a tool is not UTF-8; a local's index is not above the one before; a symbol has another kind; a feature's name
 // is not UTF-8; features without a count; a relocation is missing, in a section whose name has a quote.
-const CUSTOMS: [Row; 8] = [
+const CUSTOMS: [Row; 18] = [
     (
         b"\0asm\x01\0\0\0\0\x14\x09producers\x01\x03sdk\x01\x01a\x01\xff",
         b"0x1d: malformed UTF-8 encoding, in custom section \"producers\"\n",
@@ -173,9 +173,65 @@ const CUSTOMS: [Row; 8] = [
         b"0x14: unexpected end-of-file, in custom section \"reloc.\\22\"\n",
     ),
     (UNORDERED, UNORDERED_FAULTS),
-    // A section `core` has to begin with the byte 0: this one is not known.
-    (b"\0asm\x01\0\0\0\0\x06\x04core\x01", b""),
+    // The reader for the name refuses the data. A section `core` has to begin with the byte 0.
+    (
+        b"\0asm\x01\0\0\0\0\x06\x04core\x01",
+        b"0xf: invalid start byte for core dump name, in custom section \"core\"\n",
+    ),
+    (
+        b"\0asm\x01\0\0\0\0\x05\x04core",
+        b"0xf: unexpected end-of-file, in custom section \"core\"\n",
+    ),
+    (
+        b"\0asm\x01\0\0\0\0\x0d\x0bcoremodules\x80",
+        b"0x17: unexpected end-of-file, in custom section \"coremodules\"\n",
+    ),
+    (
+        b"\0asm\x01\0\0\0\0\x10\x0dcoreinstances\x01\x01",
+        b"0x19: invalid start byte for core dump instance, in custom section \"coreinstances\"\n",
+    ),
+    (
+        b"\0asm\x01\0\0\0\0\x0b\x09corestack\x01",
+        b"0x14: invalid start byte for core dump stack name, in custom section \"corestack\"\n",
+    ),
+    (
+        b"\0asm\x01\0\0\0\0\x09\x07linking\x03",
+        b"0x12: unsupported linking section version: 3, in custom section \"linking\"\n",
+    ),
+    (
+        b"\0asm\x01\0\0\0\0\x0a\x09producers",
+        b"0x14: unexpected end-of-file, in custom section \"producers\"\n",
+    ),
+    (
+        b"\0asm\x01\0\0\0\0\x08\x07reloc.x",
+        b"0x12: unexpected end-of-file, in custom section \"reloc.x\"\n",
+    ),
+    (
+        b"\0asm\x01\0\0\0\0\x1b\x19metadata.code.branch_hint\x80",
+        b"0x25: unexpected end-of-file, in custom section \"metadata.code.branch_hint\"\n",
+    ),
+    // A name that no reader has.
+    (b"\0asm\x01\0\0\0\0\x06\x05cores", b""),
+    // Two imports whose names are not UTF-8: the first ends the section.
+    (
+        b"\0asm\x01\0\0\0\x02\x0b\x02\x01m\x01\xff\0\0\x01m\x01\xff",
+        b"0xe: malformed UTF-8 encoding, in section import\n",
+    ),
 ];
+
+// A section with an unknown id is no fault.
+#[test]
+fn warns_of_unknown_sections(rt: HostRuntime) -> Result<(), Fail> {
+    let stream = b"\0asm\x01\0\0\0\x0e\x02\0\0\x7f\0";
+    let text = b"0xa: warning: unknown section id: 14\n0xe: warning: unknown section id: 127\n";
+    let alloc = rt.alloc();
+    checks(&rt, alloc, ALL, stream, Ended::End, (false, text))?;
+    let quiet = Asked {
+        is_quiet: true,
+        ..ALL
+    };
+    checks(&rt, alloc, quiet, stream, Ended::End, (false, b""))
+}
 
 #[test]
 fn finds_faults_in_custom_sections(rt: HostRuntime) -> Result<(), Fail> {

@@ -1,4 +1,5 @@
 // Dumps in other forms: objects of JSON, lines with bytes, and lines with hexadecimal offsets.
+use super::named::{Form, dumped};
 use crate::tests::commands::{MODULE, runs};
 use std::alloc::Global;
 use std::process::Abort;
@@ -54,36 +55,39 @@ const ROWS: [Row; 11] = [
     ),
 ];
 
-const OBJECTS: &[u8] = b"{\"event\":\"version\",\"range\":[0,8],\"num\":1,\"encoding\":\"module\"}
-{\"event\":\"section\",\"range\":[10,12],\"id\":3,\"name\":\"function\",\"count\":1}
-{\"level\":1,\"at\":11,\"space\":\"func\",\"number\":0,\"index\":5}
-{\"event\":\"section\",\"range\":[14,18],\"id\":10,\"name\":\"code\",\"count\":1,\"size\":3}
-{\"event\":\"body\",\"range\":[16,18],\"space\":\"func\",\"number\":0}
-{\"event\":\"section\",\"range\":[20,26],\"id\":0,\"name\":\"custom\",\"custom_name\":\"type\",\"data_offset\":25}
-{\"level\":1,\"line\":\"section\",\"name\":\"type\",\"known\":\"unknown\"}
-{\"event\":\"end\",\"offset\":26}
+const OBJECTS: &[u8] =
+    b"{\"event\":\"version\",\"range\":[0,8],\"num\":1,\"encoding\":\"module\",\"file\":\"-\"}
+{\"event\":\"section\",\"range\":[10,12],\"id\":3,\"name\":\"function\",\"count\":1,\"file\":\"-\"}
+{\"level\":1,\"at\":11,\"space\":\"func\",\"number\":0,\"index\":5,\"file\":\"-\"}
+{\"event\":\"section\",\"range\":[14,18],\"id\":10,\"name\":\"code\",\"count\":1,\"size\":3,\"file\":\"-\"}
+{\"event\":\"body\",\"range\":[16,18],\"space\":\"func\",\"number\":0,\"file\":\"-\"}
+{\"event\":\"section\",\"range\":[20,26],\"id\":0,\"name\":\"custom\",\"custom_name\":\"type\",\"data_offset\":25,\"file\":\"-\"}
+{\"level\":1,\"line\":\"section\",\"name\":\"type\",\"known\":\"unknown\",\"file\":\"-\"}
+{\"event\":\"end\",\"offset\":26,\"file\":\"-\"}
 ";
 
-const ESCAPED: &[u8] = b"{\"event\":\"version\",\"range\":[0,8],\"num\":1,\"encoding\":\"module\"}
-{\"event\":\"section\",\"range\":[10,25],\"id\":7,\"name\":\"export\",\"count\":2}
-{\"level\":1,\"at\":11,\"name\":\"a\\\"b\",\"kind\":\"func\",\"index\":0}
-{\"level\":1,\"at\":17,\"name\":\"\\\\\\u000a\\u0001\xc3\xa9\",\"kind\":\"global\",\"index\":0}
-{\"event\":\"end\",\"offset\":25}
+const ESCAPED: &[u8] =
+    b"{\"event\":\"version\",\"range\":[0,8],\"num\":1,\"encoding\":\"module\",\"file\":\"-\"}
+{\"event\":\"section\",\"range\":[10,25],\"id\":7,\"name\":\"export\",\"count\":2,\"file\":\"-\"}
+{\"level\":1,\"at\":11,\"name\":\"a\\\"b\",\"kind\":\"func\",\"index\":0,\"file\":\"-\"}
+{\"level\":1,\"at\":17,\"name\":\"\\\\\\u000a\\u0001\xc3\xa9\",\"kind\":\"global\",\"index\":0,\"file\":\"-\"}
+{\"event\":\"end\",\"offset\":25,\"file\":\"-\"}
 ";
 
-const SIGNED: &[u8] = b"{\"event\":\"version\",\"range\":[0,8],\"num\":1,\"encoding\":\"module\"}
-{\"event\":\"section\",\"range\":[10,32],\"id\":0,\"name\":\"custom\",\"custom_name\":\"reloc.CODE\",\"data_offset\":21}
-{\"level\":1,\"line\":\"section\",\"name\":\"reloc.CODE\",\"section\":3,\"range\":[21,32],\"entries\":[22,32],\"count\":2}
-{\"level\":2,\"at\":23,\"type\":\"R_WASM_MEMORY_ADDR_LEB\",\"offset\":33,\"index\":73,\"addend\":-4}
-{\"level\":2,\"at\":27,\"type\":\"R_WASM_MEMORY_ADDR_LEB\",\"offset\":34,\"index\":74,\"addend\":130}
-{\"event\":\"end\",\"offset\":32}
+const SIGNED: &[u8] =
+    b"{\"event\":\"version\",\"range\":[0,8],\"num\":1,\"encoding\":\"module\",\"file\":\"-\"}
+{\"event\":\"section\",\"range\":[10,32],\"id\":0,\"name\":\"custom\",\"custom_name\":\"reloc.CODE\",\"data_offset\":21,\"file\":\"-\"}
+{\"level\":1,\"line\":\"section\",\"name\":\"reloc.CODE\",\"section\":3,\"range\":[21,32],\"entries\":[22,32],\"count\":2,\"file\":\"-\"}
+{\"level\":2,\"at\":23,\"type\":\"R_WASM_MEMORY_ADDR_LEB\",\"offset\":33,\"index\":73,\"addend\":-4,\"file\":\"-\"}
+{\"level\":2,\"at\":27,\"type\":\"R_WASM_MEMORY_ADDR_LEB\",\"offset\":34,\"index\":74,\"addend\":130,\"file\":\"-\"}
+{\"event\":\"end\",\"offset\":32,\"file\":\"-\"}
 ";
 
 const FAULT_OBJECTS: &[u8] =
-    b"{\"event\":\"version\",\"range\":[0,8],\"num\":1,\"encoding\":\"module\"}
-{\"event\":\"section\",\"range\":[10,12],\"id\":7,\"name\":\"export\",\"count\":1}
-{\"level\":1,\"fault\":\"unexpected end-of-file\",\"offset\":12,\"number\":null}
-{\"event\":\"fault\",\"fault\":\"malformed section id\",\"offset\":12,\"number\":null}
+    b"{\"event\":\"version\",\"range\":[0,8],\"num\":1,\"encoding\":\"module\",\"file\":\"-\"}
+{\"event\":\"section\",\"range\":[10,12],\"id\":7,\"name\":\"export\",\"count\":1,\"file\":\"-\"}
+{\"level\":1,\"fault\":\"unexpected end-of-file\",\"offset\":12,\"number\":null,\"file\":\"-\"}
+{\"event\":\"fault\",\"fault\":\"malformed section id\",\"offset\":12,\"number\":null,\"file\":\"-\"}
 ";
 
 const BYTES: &[u8] = b"0 | 00 61 73 6d 01 00 00 00
@@ -172,5 +176,25 @@ fn writes_the_last_bytes_of_a_part(rt: HostRuntime) -> Result<(), Fail> {
     let output = two_parts(rt.alloc())?;
     let wanted = b"10 | 01\n  11\n11 | 02 03\n13 | 04\n";
     assert_eq!(rt; output.written(), wanted.as_slice());
+    Ok(())
+}
+
+/// The last rows and lines of a custom section of 70,002 bytes and of an empty section of types.
+const LAST_ROWS: &[u8] = b"70008 | 61 61 61 61 61 61
+custom 12 70014 14
+  section name=\"a\" unknown
+70014 | 01 01 00
+section 1 70016 70017 0 type
+end 70017
+";
+
+#[test]
+fn writes_bytes_after_a_large_part(rt: HostRuntime) -> Result<(), Fail> {
+    let alloc = rt.alloc();
+    let data = vec![in alloc; b'a'; 70_000]?;
+    let before = b"\0asm\x01\0\0\0\0\xf2\xa2\x04\x01a".as_slice();
+    let stream = [before, data.as_slice(), b"\x01\x01\0"].concat(alloc)?;
+    let text = dumped(alloc, stream.as_slice(), Form::Bytes)?;
+    assert!(rt; text.as_slice().ends_with(LAST_ROWS));
     Ok(())
 }

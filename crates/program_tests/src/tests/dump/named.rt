@@ -3,7 +3,7 @@ use super::names::names_in;
 use std::alloc::Global;
 use std::process::Abort;
 use std::test::Fail;
-use wasm_commands::{Format, dump_as};
+use wasm_commands::{Format, Titles, dump_as};
 use wasm_dumper::{Only, Shown};
 use wasm_feed::{SliceSource, WriteSink};
 use wasm_tree::ItemNames;
@@ -75,7 +75,7 @@ fn write_dump(
         alloc,
         shown,
         format,
-        names,
+        Titles { file: None, names },
         &mut SliceSource::new(stream),
         WriteSink::new(written),
     );

@@ -183,3 +183,59 @@ fn names_of_symbols_end_at_a_fault(rt: HostRuntime) -> Result<(), Fail> {
     assert_eq!(rt; found.of(Space::DataSegments, 1), None);
     Ok(())
 }
+
+/// Symbols of items of four kinds with the same index, and two functions to call at startup.
+const KINDS: &[u8] =
+    b"\0asm\x01\0\0\0\0\x27\x07linking\x02\x08\x15\x04\0\0\x03\x01f\x02\0\x03\x01g\x04\0\x03\x01t\x05\0\x03\x01w\x06\x05\x02\x01\x03\x02\0";
+
+/// The last lines of its dump.
+const STARTUP: &[u8] = b"    42 init_funcs=44..49 count=2
+      45 priority=1 symbol_index=3 \"w\"
+      47 priority=2 symbol_index=0 \"f\"
+end 49
+";
+
+// Each symbol names the item of its own kind. A function to call at startup is a symbol, whatever its priority.
+#[test]
+fn symbols_name_items_of_their_kinds(rt: HostRuntime) -> Result<(), Fail> {
+    let found = names_in(rt.alloc(), KINDS)?;
+    assert_eq!(rt; found.of(Space::Functions, 3), Some("f"));
+    assert_eq!(rt; found.of(Space::Globals, 3), Some("g"));
+    assert_eq!(rt; found.of(Space::Tags, 3), Some("t"));
+    assert_eq!(rt; found.of(Space::Tables, 3), Some("w"));
+    assert_eq!(rt; found.of(Space::Memories, 3), None);
+    assert_eq!(rt; found.of(Space::Symbols, 2), Some("t"));
+    let text = dumped(rt.alloc(), KINDS, Form::Named)?;
+    assert!(rt; text.as_slice().ends_with(STARTUP));
+    Ok(())
+}
+
+// How many bytes the name of a symbol has that is longer than what is read at once.
+const LONG: usize = 70_000;
+
+/// The section `linking` before that name, the table after it, and a relocation with the symbol after it.
+const BEFORE_LONG: &[u8] =
+    b"\0asm\x01\0\0\0\0\x89\xa3\x04\x07linking\x02\x08\xfc\xa2\x04\x02\0\0\0\xf0\xa2\x04";
+
+const AFTER_LONG: &[u8] = b"\0\0\x05\x01f\0\x10\x0areloc.CODE\x03\x01\0\x04\x01";
+
+/// The dump of the relocation.
+const AFTER_LONG_LINES: &[u8] = b"custom 70039 70055 70050
+  section name=\"reloc.CODE\" section=3 range=70050..70055 entries=70051..70055 count=1
+    70052 type=R_WASM_FUNCTION_INDEX_LEB offset=4 index=1 addend=0 \"f\"
+end 70055
+";
+
+// The section with the symbols is read whole, also if it is larger than what is read at once.
+#[test]
+fn symbols_after_a_long_name(rt: HostRuntime) -> Result<(), Fail> {
+    let alloc = rt.alloc();
+    let long = vec![in alloc; b'a'; LONG]?;
+    let stream = [BEFORE_LONG, long.as_slice(), AFTER_LONG].concat(alloc)?;
+    let found = names_in(alloc, stream.as_slice())?;
+    assert_eq!(rt; found.of(Space::Functions, 5), Some("f"));
+    assert_eq!(rt; found.of(Space::Symbols, 1), Some("f"));
+    let only = [Only::Name("reloc.CODE")];
+    let lines = AFTER_LONG_LINES;
+    dumps(&rt, alloc, &only, stream.as_slice(), Ok(Ended::End), lines)
+}

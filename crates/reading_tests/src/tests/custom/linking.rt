@@ -101,6 +101,36 @@ fn subsections_for_linkers(rt: HostRuntime) -> Result<(), Fail> {
     Ok(())
 }
 
+// The version is 2, however it is encoded. Any other one is the number of the fault.
+#[test]
+fn versions_for_linkers(rt: HostRuntime) -> Result<(), Fail> {
+    for bytes in [b"\x02".as_slice(), b"\x82\0"] {
+        let section = LinkingSectionReader::new(rt.alloc(), window(bytes, 40))?;
+        same(&rt, section.version(), 2);
+    }
+    let others: [(&[u8], u64); 5] = [
+        (b"\0", 0),
+        (b"\x01", 1),
+        (b"\x03", 3),
+        (b"\x82\x02", 258),
+        (b"\x82\x80\x80\x80\x08", 0x8000_0002),
+    ];
+    for (bytes, version) in others {
+        match LinkingSectionReader::new(rt.alloc(), window(bytes, 40)) {
+            Ok(_) => assert!(rt; false, "no fault in {bytes:?}"),
+            Err(error) => {
+                same(
+                    &rt,
+                    error,
+                    Error::new(Fault::LinkingVersion, 40).with_number(version),
+                );
+                same(&rt, error.number(), Some(version));
+            }
+        }
+    }
+    Ok(())
+}
+
 // The segments of a subsection.
 fn segments<'a>(linking: Linking<'a>) -> Option<SectionLimited<'a, Segment<'a>>> {
     match linking {

@@ -5,7 +5,7 @@ use crate::tests::{same, same_at, window};
 use std::alloc::{Allocator, Global};
 use std::process::Abort;
 use std::test::Fail;
-use wasm_base::{Error, Fault, Result, Subsection};
+use wasm_base::{BinaryReader, Error, Fault, Result, Subsection};
 use wasm_custom::{CustomSectionReader, Dylink0Subsection, KnownCustom};
 use wasm_testing::Sparing;
 
@@ -129,4 +129,57 @@ fn lists_whose_memory_runs_out(rt: HostRuntime) {
     list_runs_out(&rt, rt.alloc(), 5, &zeros(12), 2);
     list_runs_out(&rt, rt.alloc(), 3, &zeros(6), 2);
     list_runs_out(&rt, rt.alloc(), 4, &zeros(4), 1);
+}
+
+/// Two subsections with a list each: the library "a" is needed, and "f" is exported with a local binding.
+const DYLINK: &[u8; 11] = b"\x02\x03\x01\x01a\x03\x04\x01\x01f\x02";
+
+// A subsection as text, if it is one of these two.
+fn name_in<A: Allocator>(subsection: &Dylink0Subsection<'_, A>) -> Option<(&'static str, usize)> {
+    match subsection {
+        Dylink0Subsection::Needed(names) => Some(("needed", names.len())),
+        Dylink0Subsection::ExportInfo(exports) => Some(("exports", exports.len())),
+        _other => None,
+    }
+}
+
+// The next subsection of a section whose lists are in this allocator.
+fn next_in<A: Allocator>(
+    heap: A,
+    section: &mut BinaryReader<'_>,
+) -> Result<Option<(&'static str, usize)>> {
+    let id = section.read_u7()?;
+    let content = section.read_reader()?;
+    Ok(name_in(&Dylink0Subsection::from_reader_in(heap, id, content)?))
+}
+
+// Asserts that the section is the two subsections, and returns true; or returns false if this many blocks do not suffice: the
+// error is `OutOfMemory` then.
+fn section_suffices(rt: &impl Abort, alloc: Global, blocks: u64) -> bool {
+    let heap = Sparing::new(alloc, blocks);
+    let mut section = BinaryReader::new(DYLINK, 0);
+    for wanted in [("needed", 1), ("exports", 1)] {
+        match next_in(&heap, &mut section) {
+            Ok(found) => same_at(rt, found, Some(wanted), &blocks),
+            Err(e) => {
+                same_at(rt, e, Error::new(Fault::OutOfMemory, 0), &blocks);
+                return false;
+            }
+        }
+    }
+    same(rt, section.eof(), true);
+    true
+}
+
+// The section takes two blocks, one for each list, and each of them is refused.
+#[test]
+fn a_section_for_a_dynamic_linker_whose_memory_runs_out(rt: HostRuntime) {
+    for (blocks, wanted) in [(0, false), (1, false), (2, true)] {
+        same_at(
+            &rt,
+            section_suffices(&rt, rt.alloc(), blocks),
+            wanted,
+            &blocks,
+        );
+    }
 }

@@ -118,6 +118,31 @@ fn a_section_with_an_unknown_field(rt: HostRuntime) -> Result<(), Fail> {
     Ok(())
 }
 
+// Only three names of fields are known, and none that begins with one of them or ends it.
+#[test]
+fn names_of_fields(rt: HostRuntime) {
+    let names: [(&[u8], bool); 9] = [
+        (b"\x08language\0", true),
+        (b"\x0cprocessed-by\0", true),
+        (b"\x03sdk\0", true),
+        (b"\0\0", false),
+        (b"\x0dprocessed-by-\0", false),
+        (b"\x0eprocessed-bycc\0", false),
+        (b"\x09languages\0", false),
+        (b"\x04sdks\0", false),
+        (b"\x02sd\0", false),
+    ];
+    for (bytes, is_known) in names {
+        let wanted = if is_known {
+            None
+        } else {
+            Some(Error::new(Fault::ProducersField, 7))
+        };
+        let field = ProducersField::from_reader(&mut window(bytes, 7));
+        same(&rt, field.err(), wanted);
+    }
+}
+
 // The first of the two texts of a value is skipped with the limit of names.
 #[test]
 fn a_field_with_a_long_text(rt: HostRuntime) {

@@ -324,8 +324,8 @@ fn a_sink_flushes_its_writer(rt: HostRuntime) {
     same(&rt, writer.flushes, 3);
 }
 
-// The size of the largest read of a listing by chunks of this size.
-fn largest_read(rt: &impl Abort, alloc: Global, piece: usize) -> usize {
+// The sizes of the smallest and the largest read of a listing by chunks of this size.
+fn sizes_of_reads(rt: &impl Abort, alloc: Global, piece: usize) -> (usize, usize) {
     let mut input = Measuring::new(SMALL);
     let mut output = sink(rt, alloc, 100);
     let ended = ends(alloc, &mut input, &mut output, piece);
@@ -335,15 +335,15 @@ fn largest_read(rt: &impl Abort, alloc: Global, piece: usize) -> usize {
         (Ok(Ended::End), LISTING),
         &piece,
     );
-    let (_, largest) = input.measured();
-    largest
+    input.measured()
 }
 
+// Each read has room for one chunk, and for no more.
 #[test]
-fn at_most_a_piece_is_read_at_once(rt: HostRuntime) {
+fn each_read_has_room_for_a_chunk(rt: HostRuntime) {
     for piece in [1, 3, 65_536] {
-        let largest = largest_read(&rt, rt.alloc(), piece);
-        assert!(rt; 0 < largest && largest <= piece, "{piece}");
+        let sizes = sizes_of_reads(&rt, rt.alloc(), piece);
+        same_at(&rt, sizes, (piece, piece), &piece);
     }
 }
 

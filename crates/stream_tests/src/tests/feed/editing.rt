@@ -4,11 +4,11 @@ use std::alloc::{Allocator, Global};
 use std::process::Abort;
 use std::test::Fail;
 use wasm_feed::{
-    BoundedSink, Edit, Ended, Keep, NewSection, SliceSource, all_fit, edit, edit_stream, edit_to,
-    edited_len, encode,
+    BoundedSink, Edit, Ended, Keep, NewSection, all_fit, edit, edit_stream, edit_to, edited_len,
+    encode,
 };
 use wasm_parser::{Error, Fault, Result};
-use wasm_testing::Sparing;
+use wasm_testing::{Measuring, Sparing};
 
 /// The custom sections "a" and "b", and a type section between them.
 const STREAM: &[u8] = b"\0asm\x01\0\0\0\0\x02\x01a\x01\x01\0\0\x03\x01bB";
@@ -32,6 +32,16 @@ fn edited<A: Allocator>(alloc: A, stream: &[u8], edits: &[Edit<'_>]) -> Option<R
         return None;
     }
     Some(edit(alloc, stream, edits))
+}
+
+// Whether these bytes are as they were.
+fn are_ones(bytes: &[u8]) -> bool {
+    for byte in bytes {
+        if *byte != 1 {
+            return false;
+        }
+    }
+    true
 }
 
 // The stream after the edits is this, in memory of its own, in other memory, and while it is read.
@@ -58,12 +68,16 @@ fn makes(rt: &impl Abort, alloc: Global, edits: &[Edit<'_>], wanted: &[u8]) {
             &edits.len(),
         );
         same_at(rt, out.get(..wanted.len()), Some(wanted), &edits.len());
+        // No byte after the result changes.
+        let rest = out.get(wanted.len()..).expect(rt, "too long");
+        same_at(rt, are_ones(rest), true, &edits.len());
         for piece in [1, 2, 7, 100] {
-            let mut input = SliceSource::new(STREAM);
+            let mut input = Measuring::new(STREAM);
             let mut output = BoundedSink::new(alloc, 100).expect(rt, "out of memory");
             let how = edit_stream(alloc, edits, &mut input, &mut output, piece);
             same_at(rt, how, Ok(Ended::End), &piece);
             same_at(rt, output.written(), wanted, &piece);
+            same_at(rt, input.measured(), (piece, piece), &piece);
         }
     }
 }
@@ -138,6 +152,16 @@ fn edits_in_turn(rt: HostRuntime) {
         ],
         b"\0asm\x01\0\0\0\x01\x01\0\0\x02\x01b",
     );
+}
+
+// There may be any number of edits.
+#[test]
+fn makes_many_edits(rt: HostRuntime) {
+    let mut many = [Edit::Remove("none"); 12];
+    many[3] = Edit::Append(C);
+    many[11] = Edit::Remove("a");
+    let edited = b"\0asm\x01\0\0\0\x01\x01\0\0\x03\x01bB\0\x05\x01cxyz";
+    makes(&rt, rt.alloc(), &many, edited);
 }
 
 // The section is a prefix of these bytes, followed by its data.

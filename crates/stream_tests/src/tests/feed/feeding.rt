@@ -306,7 +306,6 @@ fn repeats(rt: &impl Abort, alloc: Global, sizes: &[usize], wanted: &[Reported])
 
 #[test]
 fn refused_pushes_are_repeated(rt: HostRuntime) {
-    let (asks, shows) = (Reported::Asks, Reported::Shows);
     let steps = [
         Reported::Asks(3),
         Reported::Shows(8),

@@ -56,9 +56,14 @@ fn the_end_again_and_again(rt: HostRuntime) {
 }
 
 /// Sections that are begun, and how many bytes are asked for.
-const BEGUN: [(&[u8], usize); 5] = [
+const BEGUN: [(&[u8], usize); 10] = [
     (b"", 1),
+    (b"\0", 3),
+    (b"\0a", 2),
     (b"\0as", 1),
+    (b"\0\x05", 5),
+    (b"\0\x05\x01a", 3),
+    (b"\x03\x80", 1),
     (b"\x01\x85\0\0\0", 3),
     (b"\x08\x02", 2),
     (b"\x0a\0", 1),
@@ -73,6 +78,26 @@ fn requests_change_nothing(rt: HostRuntime) {
             first_of(&mut parser, bytes, false),
             Answer::Asks(*hint),
         );
+        same(&rt, parser.offset(), 8);
+    }
+}
+
+/// Whole sections that their first fields overrun, and the offset of the fault. No bytes after them change it.
+const OVERRUN: [(&[u8], u64); 5] = [
+    (b"\0\0", 10),
+    (b"\0\x01\x01", 11),
+    (b"\x01\x01\x80", 11),
+    (b"\x08\0", 10),
+    (b"\x0c\x01\x80", 11),
+];
+
+#[test]
+fn nothing_is_asked_for_inside_a_section(rt: HostRuntime) {
+    let mut parser = after_header(&rt, 0);
+    for (bytes, offset) in &OVERRUN {
+        let wanted = Answer::Refuses(Error::new(Fault::UnexpectedEof, *offset));
+        same(&rt, first_of(&mut parser, bytes, false), wanted);
+        same(&rt, first_of(&mut parser, bytes, true), wanted);
         same(&rt, parser.offset(), 8);
     }
 }

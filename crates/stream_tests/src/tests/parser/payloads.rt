@@ -37,6 +37,16 @@ fn a_component(rt: HostRuntime) {
     gives(&rt, rt.alloc(), walk, &texts);
 }
 
+#[test]
+fn a_component_at_offset_0(rt: HostRuntime) {
+    let texts = [
+        "Ok(Version { num: 13, encoding: Component, range: 0..8 })",
+        "Ok(UnknownSection { id: 1, range: 10..11 })",
+        "Ok(End(11))",
+    ];
+    gives(&rt, rt.alloc(), Parser::new(0).parse_all(COMPONENT), &texts);
+}
+
 // The bytes of an unknown section.
 fn contents_of<'a>(payload: Payload<'a>) -> Option<&'a [u8]> {
     match payload {

@@ -6,7 +6,7 @@ use Rattle.wasm_commands.proofs.dump.show_several.Goals as goal
 pub loop-name-preserved : goal.loop-name-preserved
 loop-name-preserved g c =
     let at = c.loop-name.name-index in
-    let one = c.show_under_name-one.ensures in
+    let one = c.show_titled-one.ensures in
     record {
       turns = rw c.max-status.ensures
           (next_in_turn _ _ _ _ _ _ _ _ _ _ (λ name. name.now) c.args.names.now at _ _ _ _ _ _ (omega arith)

@@ -3,21 +3,21 @@ use Rattle.wasm_commands.proofs.dump.show_under_name.Goals as goal
 
 pub returns-in-Ok-clause-shows : goal.returns-in-Ok-clause-shows
 returns-in-Ok-clause-shows g c =
-    let output = c.write_heading-headed.result.1 in
+    let output = c.write_heading.new.output in
     record {
       written = record { bytes = g.W.Write.contents output.writer; failed = output.failed };
-      headed = c.write_heading-headed.result.0;
-      heads = c.write_heading-headed.ensures;
+      headed = c.write_heading.result;
+      heads = c.write_heading.ensures;
       shows = rw c.in-Ok.is c.show_file.ensures.shows;
     }
 
 pub returns-in-Err-clause-shows : goal.returns-in-Err-clause-shows
 returns-in-Err-clause-shows g c =
-    let output = c.write_heading-headed.result.1 in
+    let output = c.write_heading.new.output in
     record {
       written = record { bytes = g.W.Write.contents output.writer; failed = output.failed };
-      headed = c.write_heading-headed.result.0;
-      heads = c.write_heading-headed.ensures;
+      headed = c.write_heading.result;
+      heads = c.write_heading.ensures;
       shows = rw c.in-Err.is (
         record {
           causes = c.causes.result;

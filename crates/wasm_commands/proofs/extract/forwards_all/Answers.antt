@@ -7,6 +7,6 @@ returns-in-Err g c =
     let is : c.writes_all.result ≡ true = search rules in
     let all = rw is at c.writes_all.ensures in
     record {
-      writes = (all_but_flushed _ _ _ c.args.bytes.now all.0 c.flush.ensures.bytes, c.in-Err.ensures.failed);
+      writes = (all_but_flushed _ _ _ _ all.0 c.flush.ensures.bytes, c.in-Err.ensures.failed);
       all = λ i. absurd cc;
     }

@@ -31,9 +31,13 @@ returns-in-UnknownOption-clause-says g c =
 pub returns-in-NoCommand-clause-says : goal.returns-in-NoCommand-clause-says
 returns-in-NoCommand-clause-says g c = rw c.in-NoCommand.is (rw c.as_slice-in-NoCommand.ensures at c.say-in-NoCommand.ensures)
 
-pub returns-in-NamesOfInput-clause-says : goal.returns-in-NamesOfInput-clause-says
-returns-in-NamesOfInput-clause-says g c =
-    rw c.in-NamesOfInput.is (rw c.as_slice-in-NamesOfInput.ensures at c.say-in-NamesOfInput.ensures)
+pub returns-in-NamesOf-clause-says : goal.returns-in-NamesOf-clause-says
+returns-in-NamesOf-clause-says g c =
+    rw c.in-NamesOf.is
+    (rw (c.as_slice-in-NamesOf.ensures, c.as_bytes-in-NamesOf.ensures.value, c.shown_name.ensures) at c.say-in-NamesOf.ensures)
+
+pub returns-in-InputTwice-clause-says : goal.returns-in-InputTwice-clause-says
+returns-in-InputTwice-clause-says g c = rw c.in-InputTwice.is c.complain_of-in-InputTwice.ensures.says
 
 pub returns-in-NotUtf8-clause-says : goal.returns-in-NotUtf8-clause-says
 returns-in-NotUtf8-clause-says g c = rw c.in-NotUtf8.is (rw c.as_slice-in-NotUtf8.ensures at c.say-in-NotUtf8.ensures)

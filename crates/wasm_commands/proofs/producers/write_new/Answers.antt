@@ -1,10 +1,18 @@
 use Rattle.std.proofs.Common.{inl, refl}
-use Rattle.wasm_commands.proofs.Editing.{not_fitting}
+use Rattle.wasm_commands.proofs.Setting.{no_fit, section_set}
+use Rattle.wasm_commands.specs.Parsing.{reads_of}
 use Rattle.wasm_commands.proofs.producers.write_new.Goals as goal
 
-pub returns-else-all_fit : goal.returns-else-all_fit
-returns-else-all_fit g c = inl (
-  not_fitting c.args.is_there c.args.new c.setting_edit.result c.setting_edit.ensures c.all_fit.result c.all_fit.ensures
-      c.if-all_fit.false,
-  record { answers = c.complain.ensures.status; says = c.complain.ensures.says; sink = record { bytes = refl; failed = refl } },
-)
+pub returns-then-fits : goal.returns-then-fits
+returns-then-fits g c = section_set g.S.System g.S.Input.Source g.S.Output.Sink c.args.system.now (reads_of c.args.arguments.now)
+    _ _ _ _ c.args.name.now c.args.bytes.now refl c.write_set.result c.write_set.ensures
+
+pub returns-else-fits : goal.returns-else-fits
+returns-else-fits g c = record {
+  new = _;
+  named = refl;
+  sets = inl (
+    no_fit _ c.fits.result c.fits.ensures c.if-fits.false,
+    record { answers = c.complain.ensures.status; says = c.complain.ensures.says; sink = record { bytes = refl; failed = refl } },
+  );
+}

@@ -25,8 +25,8 @@ returns g c =
     let (result, i, size) = c.in_ok-size.ensures in
     let long : length old ≡ c.in_ok-size.size = omega (arith, c.deref_mut.ensures.len, c.in-Ok.ensures.len) in
     let is = length_is c.in_ok-size.size (length old) result size (omega (arith, long)) (omega (arith, c.deref_mut.type_inv)) in
-    let all : new ≡ result = all_is c.args.edits.now bytes result new c.in_ok-write_edited.field-0 c.requires
-    (stream_of bytes c.type_inv.bytes (omega arith)) i c.in_ok-write_edited.ensures (omega (arith, c.write_edited.auto.out, long, is)) in
+    let all : new ≡ result = all_is c.args.edits.now bytes result old new c.in_ok-write_edited.field-0 c.requires
+    (stream_of bytes c.type_inv.bytes (omega arith)) i c.in_ok-write_edited.ensures (omega (arith, long, is)) in
     let whole : take vector.len (new ++ rest) ≡ new = take_at new rest vector.len
     (omega (arith, c.write_edited.auto.out, c.deref_mut.ensures.len)) in
     subst (IsEdited c.args.edits.now bytes) (sym (whole ∙ all)) i

@@ -24,8 +24,7 @@ returns-in_ok-write_edited c =
       i,
       size,
       (
-        c.write_edited.auto.out,
-        λ f. front_is c.args.edits.now bytes result new c.in_ok-write_edited.field-0 c.requires
+        λ f. front_is c.args.edits.now bytes result out new c.in_ok-write_edited.field-0 c.requires
             (stream_of bytes c.type_inv.bytes (omega arith)) i c.in_ok-write_edited.ensures,
         λ l. absurd (omega (arith, l, is)),
       ),

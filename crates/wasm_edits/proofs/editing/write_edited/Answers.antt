@@ -1,6 +1,7 @@
 use Rattle.wasm_edits.proofs.Common.{◌≡◌, ℕ, ◌<◌, ◌≤◌, ◌^◌, ◌++◌, length, refl, sym, arith, ap, ◌∙◌, drop, take, length-append, subst}
 use Rattle.wasm_edits.proofs.Common.{HasEdited, feed_of}
 use Rattle.wasm_edits.proofs.PartSteps.{all_written, no_fault, no_more, none_yet, one_written, same_written}
+use Rattle.wasm_edits.proofs.RestStays.{stays_after}
 use Rattle.wasm_streams.proofs.ForCallers.{new_parser}
 use Rattle.wasm_edits.specs.Edits.{bytes_as, new_bytes}
 use Rattle.wasm_edits.proofs.editing.write_edited.Goals as goal
@@ -13,6 +14,7 @@ parts-init c =
       comes = none_yet c.args.edits.now bytes (feed_of bytes cursor) (new_parser 0 _ _ _ c.over_all-cursor.ensures.parser c.new.ensures)
           (ap (λ (n : ℕ). drop n bytes) c.over_all-cursor.ensures.mark);
       size = refl;
+      rest = refl;
       finished = c.over_all-cursor.ensures.finished;
       len = refl;
     }
@@ -59,6 +61,8 @@ parts-preserved c =
     record {
       comes = subst (HasEdited edits bytes after) (sym written) next;
       size = ap length written ∙ omega (arith, length-append front new, loop.size, c.write_at-end.ensures.end);
+      rest = stays_after c.parts.end c.write_at-end.result _ _ _ (omega (arith, c.write_at-end.ensures.end))
+          c.write_at-end.ensures.rest loop.rest;
       finished = c.in_ok-part.ensures.finished;
       len = c.write_at-end.ensures.len ∙ loop.len;
     }
@@ -91,4 +95,5 @@ returns c =
       whole,
       omega (arith, loop.size, length-append front (new_bytes edits), c.write_new.ensures.end),
       c.write_new.ensures.written,
+      stays_after c.parts.end c.write_new.result _ _ _ (omega (arith, c.write_new.ensures.end)) c.write_new.ensures.rest loop.rest,
     )

@@ -1,0 +1,15 @@
+use Rattle.std.proofs.Common.{inl, inr, ◌<◌, ◌^◌, length, arith}
+use Rattle.wasm_edits.proofs.ForCallers.{stream_of}
+use Rattle.wasm_commands.proofs.Setting.{appended, if_allocated}
+use Rattle.wasm_commands.proofs.producers.write_set.Goals as goal
+
+pub returns-in-Ok-None : goal.returns-in-Ok-None
+returns-in-Ok-None g c =
+    let l : length c.args.bytes.now < 2 ^ 64 = omega arith in
+    let none = rw (c.in-Ok-None.is, c.in-Ok-None.field-0-is) at c.find_first.ensures in
+    if_allocated (λ status w. inr (inl (record {
+      result = _;
+      none = none;
+      appends = appended c.args.new c.args.bytes.now c.requires (stream_of c.args.bytes.now c.type_inv.bytes l) none;
+      writes = w;
+    }))) _ _ _ c.write_between-in-Ok-None.ensures

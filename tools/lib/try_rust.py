@@ -1,0 +1,54 @@
+"""Tests the crate for Rust programs, in a clone: with each set of features, as programs of wasmparser's users, with serde, and for other targets.
+
+    tools/try rust
+
+The status is 1 if a test fails. What a machine lacks (clippy, serde, the standard library of another target) is said in one line. Status 3: there is
+no cargo.
+"""
+import os
+import shutil
+import subprocess
+import tempfile
+
+import cargo
+import common
+
+# Clippy's lints are errors, and a result that nothing else comes from has to be used.
+CLIPPY = ["--", "-D", "warnings", "-D", "clippy::must_use_candidate"]
+# Targets without an archive of ours, which the crate is built for.
+OTHERS = ("wasm32-unknown-unknown", "i686-unknown-linux-gnu", "s390x-unknown-linux-gnu", "x86_64-pc-windows-gnu")
+
+
+def tested(crate, settings):
+    """Runs the tests and the lints, with the features and without, and builds programs that call the crate wasmparser."""
+    with_serde = os.path.join(crate, "examples", "json")
+    clippy = shutil.which("cargo-clippy") or common.skip("missing: clippy")
+    for place in (crate, with_serde) if cargo.with_debian(with_serde) else (crate,):
+        for features in ([], ["--no-default-features"]):
+            common.must(["cargo", "test", "--offline", "--quiet", *features], folder=place, env=settings)
+            if clippy:
+                common.must(["cargo", "clippy", "--offline", "--quiet", "--all-targets", *features, *CLIPPY], folder=place, env=settings)
+    common.must(["cargo", "build", "--offline", "--quiet"], folder=os.path.join(crate, "examples", "programs"), env=settings)
+    print("the crate: its tests, lints and programs pass")
+
+
+def built(crate, settings):
+    """Builds the crate for each other target whose standard library this machine has."""
+    root = subprocess.run(["rustc", "--print", "sysroot"], stdout=subprocess.PIPE, check=True).stdout.decode().strip()
+    for target in OTHERS:
+        if os.path.isdir(os.path.join(root, "lib", "rustlib", target)):
+            common.must(["cargo", "build", "--offline", "--quiet", "--target", target], folder=crate, env=settings)
+            print("the crate: built for %s" % target)
+
+
+def main():
+    common.parser(__doc__).parse_args()
+    if not cargo.found():
+        return common.NO_PROGRAM
+    with tempfile.TemporaryDirectory() as folder:
+        crate = cargo.copied(os.path.join(folder, "clone"))
+        cargo.offline(folder)
+        settings = {"CARGO_TARGET_DIR": os.path.join(folder, "target"), "RUSTFLAGS": "-D warnings", "PULLEYNAVY_GOLDEN": common.GOLDEN}
+        tested(crate, settings)
+        built(crate, settings)
+    return 0
