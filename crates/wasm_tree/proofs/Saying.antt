@@ -18,20 +18,20 @@ after_text : (waiting text moved waiting' bytes : List ℕ) → waiting ++ text 
     → waiting ++ (text ++ bytes) ≡ moved ++ (waiting' ++ bytes)
 after_text waiting text moved waiting' bytes e = grind (arith, append_assoc)
 
-cut_wider : (taken written : Option (List ℕ)) (waiting bytes : List ℕ) (why : ListError) → IsCut taken written waiting why
+pub cut_wider : (taken written : Option (List ℕ)) (waiting bytes : List ℕ) (why : ListError) → IsCut taken written waiting why
     → IsCut taken written (waiting ++ bytes) why
 cut_wider taken written waiting bytes why w = grind (arith, append_assoc)
 
 -- ---- a writer
 
 -- bytes that are put are a text
-as_text : (old new : Writing) (bytes : List ℕ) (a b : Option ListError) → PutsAs a b bytes old new → PutsText a b bytes old new
+pub as_text : (old new : Writing) (bytes : List ℕ) (a b : Option ListError) → PutsAs a b bytes old new → PutsText a b bytes old new
 as_text old new bytes a b p = grind (arith, cut_wider)
 
 -- what is put after what was put
 module _ (since now new : Writing) (text bytes : List ℕ) where
   -- by why each has stopped
-  joined : (a b c : Option ListError) → since.why ≡ a → now.why ≡ b → new.why ≡ c → PutsText a b text since now
+  pub joined : (a b c : Option ListError) → since.why ≡ a → now.why ≡ b → new.why ≡ c → PutsText a b text since now
       → PutsText b c bytes now new → PutsText a c (text ++ bytes) since new
   joined (Some why) b c ea eb ec p q = grind arith
   joined None (Some why) c ea eb ec p q = grind (arith, append_assoc, cut_wider)
@@ -62,7 +62,7 @@ begun_by since now text a b e p = grind arith
 pub still_begun : (since now : Writing) (text : List ℕ) → HasLine since text now → now.is_begun ≡ true
 still_begun since now text h = begun_by since now text since.why now.why h.begun h.puts
 
-nothing_by : (w : Writing) (why : Option ListError) → w.why ≡ why → PutsText why why [] w w
+pub nothing_by : (w : Writing) (why : Option ListError) → w.why ≡ why → PutsText why why [] w w
 nothing_by w why e = grind (arith, Appends-nil, append-nil)
 
 -- nothing was put on a line that is begun

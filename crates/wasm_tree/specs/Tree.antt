@@ -159,6 +159,10 @@ pub record Rest : Type 0 where
   pub spot : Spot
   pub unshown : List ℕ
 
+-- that of objects, at this spot of one
+abbrev pub of_objects : Spot → Rest
+of_objects spot = record { is_begun = false; style = Objects; spot = spot; unshown = [] }
+
 abbrev pub with_rest : Rest → Put → Writing
 with_rest rest put = record {
   taken = put.taken;

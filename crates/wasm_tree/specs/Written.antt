@@ -1,10 +1,14 @@
 -- What each tree has written.
+use Rattle.std.specs.String.{string_bytes}
 use Rattle.std.specs.Prelude.{◌≡◌, ℕ, Bool, false, List, [], ◌∷◌, ◌++◌, Option, Some, None, if◌then◌else◌}
 use Rattle.wasm_text.specs.declared.devices.ListError.TheVariants.{Memory}
 use Rattle.wasm_text.specs.declared.digits.Base.{Base}
-use Rattle.wasm_tree.specs.Found.{found_unless}
-use Rattle.wasm_tree.specs.Tree.{Put, Rest, Writing, with_rest}
+use Rattle.wasm_tree.specs.Found.{Noted}
+use Rattle.wasm_tree.specs.Notes.{Site, outside, section, custom}
+use Rattle.wasm_tree.specs.Tree.{Put, Rest, Writing, of_objects, with_rest}
 use Rattle.wasm_tree.specs.declared.faults.Faults.{Faults}
+use Rattle.wasm_tree.specs.declared.faults.Place.{Place}
+use Rattle.wasm_tree.specs.declared.faults.Place.TheVariants as place
 use Rattle.wasm_tree.specs.declared.lines.TextLines.{TextLines}
 use Rattle.wasm_tree.specs.declared.objects.Objects.{Objects}
 use Rattle.wasm_tree.specs.declared.objects.Spot.{Spot}
@@ -26,10 +30,6 @@ lines_rest t = of_lines t.base t.is_begun t.rows
 --   `offsets`, `NotesStart`]
 abbrev pub lines : {W : Type 0} → TextLines W → Writing
 lines t = with_rest (lines_rest t) t.output
-
--- in objects
-abbrev pub of_objects : Spot → Rest
-of_objects spot = record { is_begun = false; style = style.Objects; spot = spot; unshown = [] }
 
 abbrev pub objects_rest : {W : Type 0} → Objects W → Rest
 objects_rest t = of_objects t.spot
@@ -54,11 +54,24 @@ text_unstated put = with_rest (of_objects Outside)
 abbrev pub faults : {W : Type 0} → Faults W → Writing
 faults t = text_unstated t.output
 
--- whether it has found a fault, unless it has stopped
-abbrev pub found_by : {W : Type 0} → Faults W → Option Bool
-found_by t = found_unless t.output.why t.has_found
-
 -- ---- what is noted
+
+abbrev pub site_of : Place → Site
+site_of place.Stream = outside
+site_of (place.Section name) = section name.now
+site_of (place.Custom name) = custom (string_bytes name)
+
+-- what a tree of faults has noted
+abbrev pub found_by : {W : Type 0} → Faults W → Noted
+found_by t = record {
+  output = t.output;
+  prefix = string_bytes t.prefix;
+  is_quiet = t.is_quiet;
+  site = site_of t.place;
+  has_found = t.has_found;
+}
+
+-- ---- offsets that are recorded
 
 abbrev pub noted_by : Offsets → Option (List ℕ)
 noted_by t = if t.has_stopped then None else Some t.noted.items

@@ -1,8 +1,14 @@
 // Faults alone.
-ghost use Rattle.std.specs.Prelude.{◌≡◌, None, Some, false, refl, true};
-ghost use Rattle.wasm_tree.specs.Found.{FindsNone, HasFound, knows_found};
-ghost use Rattle.wasm_tree.specs.Tree.{Adds, GoesOn, starts_objects};
-ghost use Rattle.wasm_tree.specs.Written.{faults, found_by};
+ghost use Rattle.std.specs.Prelude.{◌≡◌, ◌++◌, ◌∷◌, [], None, Some, codes, decimal, false, refl, true};
+ghost use Rattle.std.specs.String.{string_bytes};
+ghost use Rattle.wasm_base.specs.FaultAt.{fault_at};
+ghost use Rattle.wasm_base.specs.Message.{number_text};
+ghost use Rattle.wasm_text.specs.Offsets.{offset_text};
+ghost use Rattle.wasm_text.specs.declared.digits.Base.TheVariants.{Hexadecimal};
+ghost use Rattle.wasm_tree.specs.Found.{Finds, PutsMore, knows_noted};
+ghost use Rattle.wasm_tree.specs.Notes.{fault_line, outside, site_text, unknown, warning_line};
+ghost use Rattle.wasm_tree.specs.Tree.{Adds, starts_objects};
+ghost use Rattle.wasm_tree.specs.Written.{faults, found_by, site_of};
 
 use crate::known_names::ItemNames;
 use crate::numbers::Space;
@@ -52,7 +58,18 @@ impl<W: Sink> Faults<W> {
     /// `": "`. If `is_quiet`, no line is written. Nothing is written yet.
     pub fn new(alloc: Global, output: W, prefix: String, is_quiet: bool) -> Faults<W>
         ensures writing { faults result ≡ starts_objects None (W.has_failed output) }
-        ensures found { found_by result ≡ Some false }
+        ensures found { found_by result ≡ record {
+          output = record {
+            taken = W.taken output;
+            waiting = [];
+            has_failed = W.has_failed output;
+            why = None;
+          };
+          prefix = string_bytes prefix;
+          is_quiet = is_quiet;
+          site = outside;
+          has_found = false;
+        } }
     {
         Faults {
             alloc,
@@ -67,16 +84,16 @@ impl<W: Sink> Faults<W> {
     /// Returns whether there was a fault.
     ///
     /// If the tree has stopped, later items were not walked.
-    #[tactic(auto, using(crate::proofs::Finding::is_found))]
     pub fn has_faults(&self) -> bool
-        ensures { HasFound (Some result) (found_by self.now) }
+        ensures { result ≡ (found_by self.now).has_found }
     {
         self.has_found
     }
 
     /// Returns the sink, with what was written to it. Buffered bytes are dropped: call `write_out` first.
     pub fn into_output(self) -> W
-        ensures { W.has_failed result ≡ (faults self).has_failed }
+        ensures taken { W.taken result ≡ (found_by self).output.taken }
+        ensures failed { W.has_failed result ≡ (faults self).has_failed }
     {
         let Faults {
             alloc: _,
@@ -91,8 +108,9 @@ impl<W: Sink> Faults<W> {
 
     // Writes the prefix of a line, and an offset.
     fn put_offset(&mut self, offset: u64)
-        ensures goes { GoesOn self.old.output self.new.output }
-        ensures kept { self.new.has_found ≡ self.old.has_found }
+        ensures puts { PutsMore (string_bytes self.old.prefix ++ offset_text Hexadecimal offset)
+            self.old.output self.new.output }
+        ensures kept { self.new ≡ record self.old { output = self.new.output } }
     {
         self.output.put_long(self.prefix.as_bytes());
         self.output.put_short(&Offset {
@@ -103,8 +121,9 @@ impl<W: Sink> Faults<W> {
 
     // Writes the line of a section whose id is unknown, which is no fault.
     fn put_warning(&mut self, id: u8, offset: u64)
-        ensures goes { GoesOn self.old.output self.new.output }
-        ensures kept { self.new.has_found ≡ self.old.has_found }
+        ensures puts { PutsMore (warning_line (string_bytes self.old.prefix) id offset)
+            self.old.output self.new.output }
+        ensures kept { self.new ≡ record self.old { output = self.new.output } }
     {
         self.put_offset(offset);
         self.output.put_long(b": warning: unknown section id: ");
@@ -115,7 +134,7 @@ impl<W: Sink> Faults<W> {
     // Writes that the id of a section is unknown, unless the tree is quiet.
     fn warn(&mut self, id: u8, offset: u64)
         ensures adds { Adds (faults self.old) (faults self.new) }
-        ensures found { FindsNone (found_by self.old) (found_by self.new) }
+        ensures found { Finds (unknown id offset ∷ []) (Some (found_by self.old)) (Some (found_by self.new)) }
     {
         if !self.is_quiet {
             self.put_warning(id, offset);
@@ -124,8 +143,8 @@ impl<W: Sink> Faults<W> {
 
     // Writes where the items are.
     fn put_place(&mut self)
-        ensures goes { GoesOn self.old.output self.new.output }
-        ensures kept { self.new.has_found ≡ self.old.has_found }
+        ensures puts { PutsMore (site_text (site_of self.old.place)) self.old.output self.new.output }
+        ensures kept { self.new ≡ record self.old { output = self.new.output } }
     {
         match &self.place {
             Place::Stream => {}
@@ -140,18 +159,27 @@ impl<W: Sink> Faults<W> {
         }
     }
 
+    // Writes the number of a fault, if it has one.
+    fn put_number(&mut self, number: Option<u64>)
+        ensures puts { PutsMore (number_text number) self.old.output self.new.output }
+        ensures kept { self.new ≡ record self.old { output = self.new.output } }
+    {
+        if let Some(number) = number {
+            self.output.put_long(b": ");
+            self.output.put_short(&number);
+        }
+    }
+
     // Writes the line of a fault.
     fn put_fault(&mut self, error: &Error)
-        ensures goes { GoesOn self.old.output self.new.output }
-        ensures kept { self.new.has_found ≡ self.old.has_found }
+        ensures puts { PutsMore (fault_line (string_bytes self.old.prefix) (site_of self.old.place)
+            (fault_at error.now)) self.old.output self.new.output }
+        ensures kept { self.new ≡ record self.old { output = self.new.output } }
     {
         self.put_offset(error.offset());
         self.output.put_long(b": ");
         self.output.put_long(error.message().as_bytes());
-        if let Some(number) = error.number() {
-            self.output.put_long(b": ");
-            self.output.put_short(&number);
-        }
+        self.put_number(error.number());
         self.put_place();
         self.output.put_long(b"\n");
     }
@@ -161,11 +189,11 @@ impl<W: Sink> Faults<W> {
 impl<W: Sink> Tree for Faults<W> {
     ghost writing = { λ t. faults t };
 
-    ghost found = { λ t. found_by t };
+    ghost found = { λ t. Some (found_by t) };
 
     ghost ONLY_FAULTS = { true };
 
-    ghost knows = { λ t. knows_found (faults t) t.has_found refl };
+    ghost knows = { λ t. knows_noted (faults t) (found_by t) refl refl };
 
     const ONLY_FAULTS: bool = true;
 

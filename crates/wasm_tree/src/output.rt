@@ -1,8 +1,11 @@
 // A sink with the bytes that wait for it.
 ghost use Rattle.std.specs.Prelude.{◌≡◌, ◌≤◌, [], None, length};
-ghost use Rattle.wasm_tree.specs.Tree.{GoesOn, Put, Puts, Rest, stopped_without_memory, with_rest};
+ghost use Rattle.std.specs.List.{flat_map};
+ghost use Rattle.wasm_tree.specs.Fields.{quoted_byte, quoted_text};
+ghost use Rattle.wasm_tree.specs.Found.{PutsMore};
+ghost use Rattle.wasm_tree.specs.Tree.{Put, Puts, Rest, stopped_without_memory, with_rest};
 
-use crate::escapes::{PAGE_BYTES, hexadecimal_digits, plain_count};
+use crate::escapes::{PAGE_BYTES, hexadecimal_digits, is_escaped, plain_count};
 use std::alloc::Global;
 use std::marker::Model;
 use wasm_text::{ListError, Page, ShortText, Sink};
@@ -117,59 +120,70 @@ impl<W: Sink> Output<W> {
         }
     }
 
-    // Like `put`, where it doesn't matter what was put.
-    fn put_some(&mut self, bytes: &[u8])
+    // Like `put`, for a text that others are put after.
+    fn put_more(&mut self, bytes: &[u8])
         requires short { length bytes.now ≤ 65536 }
-        ensures { GoesOn self.old self.new }
+        ensures { PutsMore bytes.now self.old self.new }
     {
         self.put(bytes);
     }
 
-    /// Like `put_text`, where it doesn't matter what was put.
+    /// Puts a short text after the others.
     pub(crate) fn put_short<T: ShortText>(&mut self, text: &T)
-        ensures { GoesOn self.old self.new }
+        ensures { PutsMore (T.text text.now) self.old self.new }
     {
         self.put_text(text);
     }
 
-    /// Puts bytes, however many.
+    /// Puts bytes after the others, however many.
     pub(crate) fn put_long(&mut self, bytes: &[u8])
-        ensures { GoesOn self.old self.new }
+        ensures { PutsMore bytes.now self.old self.new }
     {
         let mut rest = bytes;
         'pieces: while rest.len() > PAGE_BYTES {
             let (first, later) = rest.split_at(PAGE_BYTES);
-            self.put_some(first);
+            self.put_more(first);
             rest = later;
         }
-        self.put_some(rest);
+        self.put_more(rest);
     }
 
-    // Puts a byte of a text in quotes by its digits.
-    fn put_escaped(&mut self, byte: u8)
-        ensures { GoesOn self.old self.new }
+    // Puts a byte of a text in quotes.
+    fn put_quoted_byte(&mut self, byte: u8)
+        ensures { PutsMore (quoted_byte byte) self.old self.new }
     {
-        self.put_some(b"\\");
-        self.put_some(&hexadecimal_digits(byte));
+        if is_escaped(byte) {
+            self.put_more(b"\\");
+            self.put_more(&hexadecimal_digits(byte));
+        } else {
+            self.put_more(&[byte]);
+        }
+    }
+
+    // Puts the bytes of a text in quotes, plain ones many at once.
+    fn put_quoted_bytes(&mut self, bytes: &[u8])
+        ensures { PutsMore (flat_map quoted_byte bytes.now) self.old self.new }
+    {
+        let mut rest = bytes;
+        'runs: while let Some((byte, later)) = rest.split_first() {
+            let count = plain_count(rest);
+            if count == 0 {
+                self.put_quoted_byte(*byte);
+                rest = later;
+            } else {
+                let (plain, others) = rest.split_at(count);
+                self.put_more(plain);
+                rest = others;
+            }
+        }
     }
 
     /// Puts a text in quotes.
     pub(crate) fn put_quoted(&mut self, text: &str)
-        ensures { GoesOn self.old self.new }
+        ensures { PutsMore (quoted_text text.now) self.old self.new }
     {
-        self.put_some(b"\"");
-        let mut rest = text.as_bytes();
-        'runs: while let Some((byte, later)) = rest.split_first() {
-            let count = plain_count(rest);
-            if count == 0 {
-                self.put_escaped(*byte);
-                rest = later;
-            } else {
-                let (plain, others) = rest.split_at(count);
-                self.put_some(plain);
-                rest = others;
-            }
-        }
-        self.put_some(b"\"");
+        self.put_more(b"\"");
+        self.put_quoted_bytes(text.as_bytes());
+        self.put_more(b"\"");
     }
 }

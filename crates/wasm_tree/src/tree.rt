@@ -1,17 +1,19 @@
 // What items are written to.
-ghost use Rattle.std.specs.Prelude.{◌≡◌, ◌++◌, None, codes, decimal, false, take, true};
+ghost use Rattle.std.specs.Prelude.{◌≡◌, ◌++◌, ◌∷◌, [], None, codes, decimal, false, take, true};
 ghost use Rattle.std.specs.List.{flat_map};
 ghost use Rattle.std.specs.Fmt.{signed_decimal};
 ghost use Rattle.std.specs.Option.{is_some};
 ghost use Rattle.wasm_tree.specs.Fields.{alone, field_start, field_text, named, number as number_value, word as word_value, quoted, raw};
 ghost use Rattle.wasm_tree.specs.Fields.{range, signed as signed_value, flag as flag_value, number_if_any as optional, hexadecimal, is_default as is_default_value};
 ghost use Rattle.wasm_text.specs.Offsets.{offset_text};
-ghost use Rattle.wasm_tree.specs.Found.{Finds, FindsNone};
+ghost use Rattle.wasm_base.specs.FaultAt.{fault_at};
+ghost use Rattle.wasm_tree.specs.Found.{Finds, FindsNone, HasStopped};
+ghost use Rattle.wasm_tree.specs.Notes.{faulty};
 ghost use Rattle.wasm_tree.specs.Said.{Says, SaysInBase, SaysSome};
 ghost use Rattle.wasm_tree.specs.Tree.{Adds, AddsBytes, AddsFirst, AddsNumber, IsOut, Writing, are_lines, has_line_feed};
 ghost use Rattle.wasm_tree.specs.declared.objects.Spot.TheVariants.{Outside};
 ghost use Rattle.wasm_tree.specs.declared.tree.Style.TheVariants.{Objects};
-ghost use Rattle.wasm_tree.specs.Values.{breaks_line, start_breaks_line, value_of};
+ghost use Rattle.wasm_tree.specs.Values.{breaks_line, note_of, start_breaks_line, value_of};
 
 use crate::escapes::{GROUP, digits_of};
 use crate::known_names::ItemNames;
@@ -124,18 +126,18 @@ pub trait Tree {
     // A tree owns its sink: had it a `&mut`, the checker would know nothing of the sink once a call has taken the tree.
 
     ghost use Rattle.std.specs.Prelude.{Bool, Option};
-    ghost use Rattle.wasm_tree.specs.Found.{KnowsFaults};
+    ghost use Rattle.wasm_tree.specs.Found.{KnowsFaults, Noted};
 
     /// What it has written.
     ghost writing: { Self → Writing };
 
-    /// Whether a fault was reported to it, if it keeps faults alone and has not stopped.
-    ghost found: { Self → Option Bool };
+    /// What it has noted, if it keeps faults alone.
+    ghost found: { Self → Option Noted };
 
     /// The constant `ONLY_FAULTS`, for clauses.
     ghost ONLY_FAULTS: { Bool };
 
-    /// A tree that keeps faults alone has no format, and no other tree, and none that has stopped, counts faults.
+    /// A tree that keeps faults alone has no format, and no other tree notes faults.
     ghost knows: { (t : Self) → KnowsFaults ONLY_FAULTS (writing t) (found t) };
 
     /// Whether the tree keeps faults alone. Then what writes items on it leaves out their fields.
@@ -156,7 +158,7 @@ pub trait Tree {
         ensures adds { Adds (writing self.old) (writing self.new) }
         ensures style { (writing self.new).style ≡ (writing self.old).style }
         ensures stops { is_some (writing self.new).why ≡ true }
-        ensures unknown { found self.new ≡ None };
+        ensures found { FindsNone (found self.old) (found self.new) };
 
     /// Writes the buffered bytes to the sink. Ends the current line first, and shows the remaining bytes of
     /// `begin_part`.
@@ -281,17 +283,17 @@ pub trait Tree {
     /// Says where the items that follow are. Only a tree of faults alone writes that, after the faults that follow.
     fn enter(&mut self, within: Within<'_>)
         ensures adds { Adds (writing self.old) (writing self.new) }
-        ensures found { FindsNone (found self.old) (found self.new) };
+        ensures found { Finds (note_of within.entry ∷ []) (found self.old) (found self.new) };
 
     /// Notes a fault. A tree of faults alone writes its line; other trees do nothing here.
     fn note_fault(&mut self, error: &Error)
         ensures adds { Adds (writing self.old) (writing self.new) }
-        ensures found { Finds true (found self.old) (found self.new) };
+        ensures found { Finds (faulty (fault_at error.now) ∷ []) (found self.old) (found self.new) };
 
     /// Returns whether the tree has stopped.
     final fn has_stopped(&self) -> bool
         ensures is { result ≡ is_some (writing self.now).why }
-        ensures unknown { result ≡ true → found self.now ≡ None }
+        ensures found { result ≡ true → HasStopped (found self.now) }
     {
         self.stopped().is_some()
     }
@@ -481,7 +483,7 @@ pub trait Tree {
     /// Writes a line for a fault, at this level.
     final fn fault(&mut self, level: usize, error: &Error)
         ensures adds { Adds (writing self.old) (writing self.new) }
-        ensures found { Finds true (found self.old) (found self.new) }
+        ensures found { Finds (faulty (fault_at error.now) ∷ []) (found self.old) (found self.new) }
     {
         self.note_fault(error);
         if !Self::ONLY_FAULTS {

@@ -1,10 +1,9 @@
-use Rattle.wasm_tree.specs.Written.{of_objects}
-use Rattle.wasm_tree.specs.declared.objects.Spot.TheVariants.{Outside}
-use Rattle.wasm_tree.proofs.Finding.{adds_unstated, finds_none, goes_on}
+use Rattle.wasm_tree.proofs.Common.{refl}
+use Rattle.wasm_tree.proofs.Finding.{adds_unstated, noted_none, puts_more}
 use Rattle.wasm_tree.proofs.faults.FaultsTree.write_out.Goals as goal
 
 pub returns-clause-adds : goal.returns-clause-adds
-returns-clause-adds g c = adds_unstated _ _ (goes_on _ _ _ _ (c.write_out.ensures.puts (of_objects Outside)))
+returns-clause-adds g c = adds_unstated _ _ _ (puts_more _ _ _ c.write_out.ensures.puts)
 
 pub returns-clause-found : goal.returns-clause-found
-returns-clause-found g c = finds_none _ _ (goes_on _ _ _ _ (c.write_out.ensures.puts (of_objects Outside))) _
+returns-clause-found g c = noted_none _ _ (puts_more _ _ _ c.write_out.ensures.puts) refl
