@@ -7,7 +7,7 @@ use Rattle.std.specs.Prelude.{IfErr, OnOk, Result}
 use Rattle.wasm_dumper.proofs.Checking.{FindsStep, Seeking, finds_advanced, finds_ended, sought}
 use Rattle.wasm_dumper.proofs.Dumping.{ShowsStep, Wanting, advanced, ended, starts, stopped, stopped_after, stopped_at_last}
 use Rattle.wasm_dumper.proofs.Dumping.{stopped_before, wanted}
-use Rattle.wasm_dumper.specs.Checks.{FindsAt, answer_faulty}
+use Rattle.wasm_dumper.specs.Checks.{FindsAt, answer_notes}
 use Rattle.wasm_dumper.specs.Counting.{no_counts}
 use Rattle.wasm_dumper.specs.Dump.{after_answer}
 use Rattle.wasm_dumper.specs.Dumping.{Done, Dumper, Dumping, Finding, Going, dump_stages, dumper}
@@ -15,8 +15,9 @@ use Rattle.wasm_streams.specs.Visits.{Finishes, GivesOut, MayBegin, Met, MeetsRe
 use Rattle.wasm_streams.specs.declared.turns.Turn.{Turn}
 use Rattle.wasm_streams.specs.declared.turns.Turn.TheVariants as turn
 use Rattle.wasm_text.specs.Calls.{Device, bytes_of}
-use Rattle.wasm_tree.specs.Found.{Finds, FindsNone}
+use Rattle.wasm_tree.specs.Found.{Finds, FindsNone, Noted}
 use Rattle.wasm_streams.proofs.ForCallers.{nothing_read}
+use Rattle.wasm_tree.proofs.ForCallers.{finds_nothing}
 
 -- a part and a fault are no requests
 pub part_is_no_request : (report : Report) (bytes : List ℕ) (hint : ℕ) → Part report bytes ≡ Request hint → ⊥
@@ -26,7 +27,7 @@ pub stop_is_no_request : (e : Error) (hint : ℕ) → Stop e ≡ Request hint �
 stop_is_no_request e hint is = cc
 
 module _ {V W : Type 0} (only : V → List Only) (has_bytes : V → Bool) (counts : V → Counts) (writing : W → Writing)
-    (found : W → Option Bool) where
+    (found : W → Option Noted) where
   abbrev pub visitor : Dumper V W
   visitor = dumper only has_bytes counts writing found
 
@@ -35,7 +36,7 @@ module _ {V W : Type 0} (only : V → List Only) (has_bytes : V → Bool) (count
       → MayBegin (dump_stages visitor) first start full had
   may_begin first start full had none = record {
     dumping = starts (only first) (has_bytes first) full (writing start) (counts first) none;
-    finding = record { events = []; reached = nothing_read full; found = λ is h. h };
+    finding = record { events = []; reached = nothing_read full; found = finds_nothing _ _ (λ since notes h. h) };
     same = (refl, refl);
   }
 
@@ -59,7 +60,7 @@ module _ {V W : Type 0} (only : V → List Only) (has_bytes : V → Bool) (count
   module _ (old new : V) (before after : W) (x : Told)
       (shows : ShowsAnswer (only old) (has_bytes old) (counts old) x (writing before) (writing after))
       (counted : counts new ≡ after_answer (counts old) x)
-      (finds : Finds (answer_faulty (only old) x) (found before) (found after)) (no_request : (hint : ℕ) → x ≡ Request hint → ⊥) where
+      (finds : Finds (answer_notes (only old) x) (found before) (found after)) (no_request : (hint : ℕ) → x ≡ Request hint → ⊥) where
     module _ (first : V) (start : W) (input : Device) (f g : Feed) (going : Going visitor first start input f old before)
         (moves : Moves f x g) where
       step : ShowsStep (only first) (has_bytes first) (counts old) (counts new) f g (writing before) (writing after) (turn_after x)

@@ -1,6 +1,6 @@
 -- How far a dump has come along a stream.
 use Rattle.std.specs.Prelude.{◌≡◌, ℕ, Bool, List, [], Option, Some, None, Result, Ok, Err}
-use Rattle.wasm_dumper.specs.Checks.{FindsAt, any_faulty}
+use Rattle.wasm_dumper.specs.Checks.{FindsAt, notes_of}
 use Rattle.wasm_dumper.specs.Chosen.{chosen_line}
 use Rattle.wasm_dumper.specs.Counting.{after_all, no_counts}
 use Rattle.wasm_dumper.specs.Dump.{AreOfEvents, DumpsInto, bytes_of_events, origin}
@@ -14,7 +14,7 @@ use Rattle.wasm_streams.specs.declared.turns.Ended.{Ended}
 use Rattle.wasm_grammar.specs.Reading.{Event}
 use Rattle.wasm_text.specs.Calls.{Device, bytes_of}
 use Rattle.wasm_text.specs.declared.devices.ListError.{ListError}
-use Rattle.wasm_tree.specs.Found.{Finds, FindsNone}
+use Rattle.wasm_tree.specs.Found.{Finds, FindsNone, Noted}
 use Rattle.wasm_tree.specs.Numbers.{Number}
 use Rattle.wasm_tree.specs.Tree.{Adds, IsOut, IsWritten, Writing}
 use Rattle.wasm_tree.specs.declared.tree.Style.{Style}
@@ -49,10 +49,10 @@ pub record Dumping (only : List Only) (has_bytes : Bool) (full rest : Option (Li
   pub writing : HasWritten only has_bytes before events now
 
 -- where the feeder is along what the source gave, and what was found of its events
-pub record Finding (only : List Only) (full rest : Option (List ℕ)) (f : Feed) (old new : Option Bool) : Type 0 where
+pub record Finding (only : List Only) (full rest : Option (List ℕ)) (f : Feed) (old new : Option Noted) : Type 0 where
   pub events : List Event
   pub reached : Reached full rest f events
-  pub found : Finds (any_faulty only events) old new
+  pub found : Finds (notes_of only events) old new
 
 -- | a visitor that dumps, and what is so of it at each stage of its run [`Dumper`, `dump_stages`; `Going`, `Ending`,
 --   `Done`]
@@ -62,7 +62,7 @@ pub record Dumper (V W : Type 0) : Type 0 where
   pub has_bytes : V → Bool
   pub counts : V → Counts
   pub writing : W → Writing
-  pub found : W → Option Bool
+  pub found : W → Option Noted
 
 module _ {V W : Type 0} (d : Dumper V W) (first : V) (start : W) (input : Device) where
   pub record Going (f : Feed) (now : V) (out : W) : Type 0 where
@@ -90,6 +90,6 @@ dump_stages d = record {
 }
 
 abbrev pub dumper : {V W : Type 0} → (only : V → List Only) (has_bytes : V → Bool) (counts : V → Counts)
-    (writing : W → Writing) (found : W → Option Bool) → Dumper V W
+    (writing : W → Writing) (found : W → Option Noted) → Dumper V W
 dumper only has_bytes counts writing found =
     record { only = only; has_bytes = has_bytes; counts = counts; writing = writing; found = found }

@@ -15,10 +15,10 @@ use Rattle.wasm_streams.specs.declared.cursor.Cursor.{Cursor}
 use Rattle.wasm_streams.specs.declared.passing.Passing.{Passing}
 use Rattle.wasm_text.specs.declared.devices.ListError.{ListError}
 use Rattle.wasm_text.specs.declared.devices.ListError.TheVariants.{Input}
-use Rattle.wasm_tree.specs.Found.{Finds}
+use Rattle.wasm_tree.specs.Found.{Finds, Noted}
 use Rattle.wasm_tree.specs.Numbers.{more}
 use Rattle.wasm_tree.specs.Tree.{Writing}
-use Rattle.wasm_dumper.specs.Checks.{shown_faulty}
+use Rattle.wasm_dumper.specs.Checks.{shown_notes}
 use Rattle.wasm_dumper.specs.Chosen.{is_chosen_by, is_chosen_with, shows_items}
 use Rattle.wasm_dumper.specs.Counting.{after}
 use Rattle.wasm_dumper.specs.Dump.{ShowsReport}
@@ -104,9 +104,9 @@ CountsOutline only has_bytes outline old new = (report : Report)
     → ReportsOutline only has_bytes outline report → new ≡ after old report
 
 -- What it has was found.
-abbrev pub FindsOutline : List Only → (has_bytes : Bool) → Outline → (old new : Option Bool) → Type 0
+abbrev pub FindsOutline : List Only → (has_bytes : Bool) → Outline → (old new : Option Noted) → Type 0
 FindsOutline only has_bytes outline old new = (report : Report)
-    → ReportsOutline only has_bytes outline report → Finds (shown_faulty only report) old new
+    → ReportsOutline only has_bytes outline report → Finds (shown_notes only report) old new
 
 -- the counts after a part of which nothing is shown
 abbrev pub after_hidden : Counts → (is_body : Bool) → Counts

@@ -3,6 +3,7 @@ ghost use Rattle.std.specs.List.{list_any};
 ghost use Rattle.std.specs.Prelude.{◌≡◌, ◌≤◌, ◌+◌, ◌++◌, codes, false, IfSome, length, option_map, Some, take, true};
 ghost use Rattle.wasm_base.specs.FaultAt.{fault_at};
 ghost use Rattle.wasm_base.specs.Window.{place};
+ghost use Rattle.wasm_dumper.specs.Checks.{report_notes};
 ghost use Rattle.wasm_dumper.specs.Chosen.{after_blank, counted_name as name_counted, end_text, fields_part, id_of as id_reported, is_chosen, is_chosen_by, is_chosen_with, is_parts, name_of as name_reported, numbered_line, shows_items as items_are_shown};
 ghost use Rattle.wasm_grammar.specs.Content.{fault};
 ghost use Rattle.wasm_grammar.specs.Ids.{name_of};
@@ -334,7 +335,8 @@ fn event_object<O: Tree>(counts: &Counts, payload: &Payload<'_>, out: &mut O)
 // Writes the object of a fault, or its line on a tree that keeps faults alone.
 fn fault_object<O: Tree>(error: &Error, out: &mut O)
     ensures adds { Adds (O.writing out.old) (O.writing out.new) }
-    ensures found { Finds true (O.found out.old) (O.found out.new) }
+    ensures found { Finds (report_notes (stream_end (fault (fault_at error.now))))
+        (O.found out.old) (O.found out.new) }
 {
     if O::ONLY_FAULTS {
         out.enter(Within::Stream);
@@ -482,7 +484,8 @@ pub(crate) fn show_event<O: Tree>(
 pub(crate) fn show_last_fault<O: Tree>(error: &Error, out: &mut O)
     ensures adds { AddsFirst (line_in (base_of (O.writing out.old).style) (stream_end (fault (fault_at error.now))))
         (O.writing out.old) (O.writing out.new) }
-    ensures found { Finds true (O.found out.old) (O.found out.new) }
+    ensures found { Finds (report_notes (stream_end (fault (fault_at error.now))))
+        (O.found out.old) (O.found out.new) }
 {
     match out.style() {
         Style::Lines(base) => out.first_of_function(&FaultLine { base, error }, None),

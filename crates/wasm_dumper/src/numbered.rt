@@ -1,11 +1,12 @@
 // Writes items with their indices in their index spaces.
-ghost use Rattle.std.specs.Prelude.{◌≡◌, Bool, None, Some};
+ghost use Rattle.std.specs.Prelude.{◌≡◌, List, None, Some};
+ghost use Rattle.wasm_base.specs.FaultAt.{FaultAt};
 ghost use Rattle.wasm_base.specs.Outcome.{Outcome};
 ghost use Rattle.wasm_base.specs.Window.{Place, place};
 ghost use Rattle.wasm_items.specs.Flattened.{flattened, found_at};
 ghost use Rattle.wasm_items.specs.RecGroups.{rec_group_at};
-ghost use Rattle.wasm_show.specs.Faults.{Agrees, FindsItem, any_fault, no_lists, plainly, section_faulty};
-ghost use Rattle.wasm_tree.specs.Found.{Finds, FindsNone};
+ghost use Rattle.wasm_show.specs.Faults.{Agrees, FindsFaults, FindsItem, faults_among, no_lists, plainly, section_faults};
+ghost use Rattle.wasm_tree.specs.Found.{FindsNone};
 ghost use Rattle.wasm_dumper.specs.Counting.{after_found, count_of, number_found, import_number, import_numbers, with_import};
 ghost use Rattle.wasm_dumper.specs.Counting.{one_number};
 ghost use Rattle.wasm_tree.specs.declared.numbers.Space.TheVariants.{Types};
@@ -64,8 +65,8 @@ pub(crate) fn show_numbered<'a, T: FromReader<'a> + Show, O: Tree>(
     //   `numbers_in`); `numbered::show_numbered` (`AddsItems`)]
     ensures all { AddsItems T.meaning one_number space (count_of counts.now space) section.now
         (O.writing out.old) (O.writing out.new) }
-    ensures found { (reading : Place → Outcome Bool) → Agrees T.meaning no_lists reading
-        → Finds (section_faulty reading section.now) (O.found out.old) (O.found out.new) }
+    ensures found { (reading : Place → Outcome (List FaultAt)) → Agrees T.meaning no_lists reading
+        → FindsFaults (section_faults reading section.now) (O.found out.old) (O.found out.new) }
 {
     let mut index = counts.of(space);
     for item in section.clone().unwrap().into_iter_with_offsets() {
@@ -99,7 +100,7 @@ pub(crate) fn show_imports<O: Tree>(counts: &Counts, section: &ImportSectionRead
     ensures all { AddsAll
         (import_numbers counts.now (flattened section.now.count (place section.now.reader)))
         (O.writing out.old) (O.writing out.new) }
-    ensures found { Finds (any_fault (flattened section.now.count (place section.now.reader)))
+    ensures found { FindsFaults (faults_among (flattened section.now.count (place section.now.reader)))
         (O.found out.old) (O.found out.new) }
 {
     let mut before = *counts;
@@ -170,7 +171,7 @@ fn show_found<O: Tree>(index: u64, group: &Result<(u64, RecGroup)>, out: &mut O)
 /// Writes the groups of a type section, with the index of each type.
 pub(crate) fn show_groups<O: Tree>(alloc: Global, section: &TypeSectionReader<'_>, out: &mut O)
     ensures next { AddsNext Types 0 (O.writing out.old) (O.writing out.new) }
-    ensures found { Finds (section_faulty (plainly rec_group_at) section.now)
+    ensures found { FindsFaults (section_faults (plainly rec_group_at) section.now)
         (O.found out.old) (O.found out.new) }
 {
     let mut groups = section.clone().unwrap().into_iter_in(alloc);

@@ -6,11 +6,13 @@ ghost use Rattle.wasm_streams.specs.Step.{Part as a_part};
 ghost use Rattle.wasm_parser.specs.ParseAnswer.{ItemsBegin, report_of};
 ghost use Rattle.wasm_text.specs.Calls.{device_of, from_to};
 ghost use Rattle.wasm_dumper.specs.Dump.{DumpsByTree, DumpsInto, ShowsAnswer, ShowsItems, ShowsItemsIf, ShowsReport, after_answer};
-ghost use Rattle.wasm_dumper.specs.Checks.{FindsAt, answer_faulty, faulty_if, report_faulty, shown_faulty};
+ghost use Rattle.wasm_dumper.specs.Checks.{FindsAt, answer_notes, notes_if, report_faults, report_notes, shown_notes, site_note};
 ghost use Rattle.wasm_dumper.specs.Dumping.{dump_stages, dumper};
 ghost use Rattle.wasm_dumper.specs.Hiding.{CountsOutline, FindsOutline, ShowsOutline};
 ghost use Rattle.wasm_dumper.specs.declared.hidden.Outline.TheVariants.{Custom};
+ghost use Rattle.wasm_show.specs.Faults.{FindsFaults};
 ghost use Rattle.wasm_tree.specs.Found.{Finds, FindsNone};
+ghost use Rattle.wasm_tree.specs.Values.{note_of};
 ghost use Rattle.wasm_tree.specs.Tree.{Adds, AddsBytes, IsOut};
 
 use crate::counts::Counts;
@@ -30,7 +32,9 @@ use wasm_text::{ListError, Source};
 use wasm_tree::{Offsets, Space, Tree, Within};
 
 // The place of the items of a payload.
-fn within<'a>(payload: &Payload<'a>) -> Within<'a> {
+fn within<'a>(payload: &Payload<'a>) -> Within<'a>
+    ensures { note_of result.entry ≡ site_note (report_of payload.now) }
+{
     match payload {
         Payload::CustomSection(section) => Within::Custom(section.name()),
         Payload::UnknownSection { id, range, .. } => Within::Unknown(*id, range.start),
@@ -65,7 +69,7 @@ pub fn show_payload<O: Tree>(alloc: Global, counts: &Counts, payload: &Payload<'
     ensures shows { ItemsBegin payload.now
         → ShowsItems counts.now (report_of payload.now) (O.writing out.old) (O.writing out.new) }
     ensures found { ItemsBegin payload.now
-        → Finds (report_faulty (report_of payload.now)) (O.found out.old) (O.found out.new) }
+        → Finds (report_notes (report_of payload.now)) (O.found out.old) (O.found out.new) }
 {
     out.enter(within(payload));
     show_items_of(alloc, counts, payload, out);
@@ -83,7 +87,7 @@ fn show_payload_if<O: Tree>(
     ensures shows { ItemsBegin payload.now → ShowsItemsIf has_items counts.now
         (report_of payload.now) (O.writing out.old) (O.writing out.new) }
     ensures found { ItemsBegin payload.now
-        → Finds (faulty_if has_items (report_of payload.now)) (O.found out.old) (O.found out.new) }
+        → Finds (notes_if has_items (report_of payload.now)) (O.found out.old) (O.found out.new) }
 {
     if has_items {
         show_payload(alloc, counts, payload, out);
@@ -96,7 +100,7 @@ fn show_items_of<O: Tree>(alloc: Global, counts: &Counts, payload: &Payload<'_>,
     ensures shows { ItemsBegin payload.now
         → ShowsItems counts.now (report_of payload.now) (O.writing out.old) (O.writing out.new) }
     ensures found { ItemsBegin payload.now
-        → Finds (report_faulty (report_of payload.now)) (O.found out.old) (O.found out.new) }
+        → FindsFaults (report_faults (report_of payload.now)) (O.found out.old) (O.found out.new) }
 {
     match payload {
         Payload::TypeSection(section) => show_groups(alloc, section, out),
@@ -168,7 +172,7 @@ fn show_chosen<O: Tree>(
         counts.now (report_of payload.now) part.entry.bytes.now
         (O.writing out.old) (O.writing out.new) }
     ensures found { ItemsBegin payload.now → Finds
-        (shown_faulty shown.entry.only.now (report_of payload.now))
+        (shown_notes shown.entry.only.now (report_of payload.now))
         (O.found out.old) (O.found out.new) }
 {
     if chooses(shown.only, payload) {
@@ -193,7 +197,7 @@ fn show_part<O: Tree>(
         (O.writing out.old) (O.writing out.new) }
     ensures counts { ItemsBegin payload.now → counts.new
         ≡ after_answer counts.old (a_part (report_of payload.now) part.entry.bytes.now) }
-    ensures found { ItemsBegin payload.now → Finds (answer_faulty shown.entry.only.now
+    ensures found { ItemsBegin payload.now → Finds (answer_notes shown.entry.only.now
         (a_part (report_of payload.now) part.entry.bytes.now))
         (O.found out.old) (O.found out.new) }
 {

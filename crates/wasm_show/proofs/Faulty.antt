@@ -52,6 +52,17 @@ faults_wider a b x y is f = finds_same (faults a ++ faults b) (faults (a ++ b)) 
 pub faults_same : (a b : List FaultAt) (x y : Option Noted) → a ≡ b → FindsFaults a x y → FindsFaults b x y
 faults_same a b x y e f = subst (λ (fs : List FaultAt). FindsFaults fs x y) e f
 
+-- The fault of an item is noted; or an allocation failed, and the tree has stopped. A fault of what is read as one, which
+-- is never out of memory, is the one that is to be found.
+pub fault_or_stop : (all : List FaultAt) (e : Error) (old new : Option Noted)
+    → (is_out_of_memory (fault_at e).fault ≡ true) ⊎ (all ≡ fault_at e ∷ []) → FindsFault e old new → FindsFaults all old new
+fault_or_stop all e old new (inl m) f = faults_wider [] all old new (f.stops m) (finds_nothing old new (f.none m))
+fault_or_stop all e old new (inr is) f = by_memory _ refl
+  where
+    by_memory : (memory : Bool) → is_out_of_memory (fault_at e).fault ≡ memory → FindsFaults all old new
+    by_memory true m = faults_wider [] all old new (f.stops m) (finds_nothing old new (f.none m))
+    by_memory false m = faults_same (fault_at e ∷ []) all old new (sym is) (f.one m)
+
 -- ---- the remaining items
 
 -- Of the faults that were owed some are noted and the remaining items owe the others; or all are, since the tree has

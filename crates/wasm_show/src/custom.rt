@@ -2,8 +2,8 @@
 ghost use Rattle.std.specs.Prelude.{[], ◌∷◌, true};
 ghost use Rattle.wasm_custom.specs.Known.{known_parts};
 ghost use Rattle.wasm_show.specs.CustomText.{feature_fields, hint_fields, prefix_field, value_fields};
-ghost use Rattle.wasm_show.specs.Faults.{FindsFault, custom_faulty, features_faulty, known_faulty, name_section_faulty, producers_faulty};
-ghost use Rattle.wasm_tree.specs.Found.{Finds, FindsNone};
+ghost use Rattle.wasm_show.specs.Faults.{FindsFaults, FindsFault, custom_faults, features_faults, known_faults, name_section_faults, producers_faults};
+ghost use Rattle.wasm_tree.specs.Found.{FindsNone};
 ghost use Rattle.wasm_tree.specs.Said.{SaysFields};
 ghost use Rattle.wasm_tree.specs.Tree.{Adds};
 
@@ -67,13 +67,13 @@ struct Fields<'a> {
 
 impl<'a> Items for Fields<'a> {
     ghost use Rattle.wasm_base.specs.Section.{most_items};
-    ghost use Rattle.wasm_show.specs.Faults.{OwesFields, field_faulty};
+    ghost use Rattle.wasm_show.specs.Faults.{OwesFields, field_faults};
 
     type Item = ProducersField<'a>;
 
     ghost owes = { λ f. OwesFields f.fields };
 
-    ghost holds = { field_faulty };
+    ghost holds = { field_faults };
 
     ghost most = { λ f. most_items f.fields };
 
@@ -89,7 +89,7 @@ impl<'a> Items for Fields<'a> {
 // Writes the fields of a section `producers`, and their values under them.
 fn show_producers<O: Tree>(level: usize, section: &ProducersSectionReader<'_>, out: &mut O)
     ensures adds { Adds (O.writing out.old) (O.writing out.new) }
-    ensures found { Finds (producers_faulty section.now) (O.found out.old) (O.found out.new) }
+    ensures found { FindsFaults (producers_faults section.now) (O.found out.old) (O.found out.new) }
 {
     show_extent("fields", section, out);
     let fields = section.clone().unwrap().into_iter_with_offsets();
@@ -123,7 +123,7 @@ impl Show for TargetFeature<'_> {
 // Writes the subsections of a section `name` on lines under the current line.
 fn show_names<O: Tree>(level: usize, section: &NameSectionReader<'_>, out: &mut O)
     ensures adds { Adds (O.writing out.old) (O.writing out.new) }
-    ensures found { Finds (name_section_faulty section.now) (O.found out.old) (O.found out.new) }
+    ensures found { FindsFaults (name_section_faults section.now) (O.found out.old) (O.found out.new) }
 {
     show_items(under(level), section.clone().unwrap(), out);
 }
@@ -152,7 +152,7 @@ impl Show for NameSectionReader<'_> {
 /// ```
 pub fn show_custom<O: Tree>(alloc: Global, section: &CustomSectionReader<'_>, out: &mut O)
     ensures adds { Adds (O.writing out.old) (O.writing out.new) }
-    ensures found { Finds (custom_faulty section.now) (O.found out.old) (O.found out.new) }
+    ensures found { FindsFaults (custom_faults section.now) (O.found out.old) (O.found out.new) }
 {
     out.line(1, "section");
     out.quoted("name", section.name());
@@ -168,7 +168,7 @@ pub fn show_custom<O: Tree>(alloc: Global, section: &CustomSectionReader<'_>, ou
 // Writes the features of a section `target_features`.
 fn show_features<O: Tree>(section: &CustomSectionReader<'_>, out: &mut O)
     ensures adds { Adds (O.writing out.old) (O.writing out.new) }
-    ensures found { Finds (features_faulty section.now) (O.found out.old) (O.found out.new) }
+    ensures found { FindsFaults (features_faults section.now) (O.found out.old) (O.found out.new) }
 {
     match TargetFeaturesSectionReader::new(section.data_reader()) {
         Ok(features) => show_list("features", 1, &features, out),
@@ -194,7 +194,7 @@ fn show_refused<O: Tree>(error: &Error, out: &mut O)
 // Writes the contents of a custom section: its fields on the current line, which is at this level, and its items under it.
 fn show_known<O: Tree>(level: usize, known: &KnownCustom<'_>, out: &mut O)
     ensures adds { Adds (O.writing out.old) (O.writing out.new) }
-    ensures found { Finds (known_faulty (known_parts known.now)) (O.found out.old) (O.found out.new) }
+    ensures found { FindsFaults (known_faults (known_parts known.now)) (O.found out.old) (O.found out.new) }
 {
     match known {
         KnownCustom::Name(section) => show_names(level, section, out),

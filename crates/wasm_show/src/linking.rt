@@ -1,8 +1,8 @@
 // Texts of the sections `linking`, `reloc.*` and `dylink.0`, and of their items.
 ghost use Rattle.std.specs.Prelude.{◌≡◌, false};
 ghost use Rattle.wasm_show.specs.CustomText.{mem_info_fields};
-ghost use Rattle.wasm_show.specs.Faults.{dylink_faulty, linking_faulty, linking_section_faulty, relocations_faulty};
-ghost use Rattle.wasm_tree.specs.Found.{Finds, FindsNone};
+ghost use Rattle.wasm_show.specs.Faults.{FindsFaults, dylink_faults, linking_faults, linking_section_faults, relocations_faults};
+ghost use Rattle.wasm_tree.specs.Found.{FindsNone};
 ghost use Rattle.wasm_tree.specs.Said.{SaysFields};
 ghost use Rattle.wasm_show.specs.SymbolText.{comdat_kind_word, comdat_symbol_fields, export_info_fields, import_info_fields, init_fields, relocation_fields, relocation_type_word, segment_fields};
 ghost use Rattle.wasm_tree.specs.Tree.{Adds, has_line_feed};
@@ -119,13 +119,13 @@ struct LinkingItems<'a> {
 impl<'a> Items for LinkingItems<'a> {
     ghost use Rattle.std.specs.Prelude.{length};
     ghost use Rattle.wasm_base.specs.Window.{place};
-    ghost use Rattle.wasm_show.specs.Faults.{OwesLinking, linking_faulty};
+    ghost use Rattle.wasm_show.specs.Faults.{OwesLinking, linking_faults};
 
     type Item = Linking<'a>;
 
     ghost owes = { λ l. OwesLinking l.subsections };
 
-    ghost holds = { linking_faulty };
+    ghost holds = { linking_faults };
 
     ghost most = { λ l. length (place l.subsections).rest };
 
@@ -142,7 +142,7 @@ impl<'a> Items for LinkingItems<'a> {
 // Writes the faults of the list of a subsection on a tree that keeps faults alone.
 fn show_listed<O: Tree>(level: usize, item: &Linking<'_>, out: &mut O)
     ensures adds { Adds (O.writing out.old) (O.writing out.new) }
-    ensures found { Finds (linking_faulty item.now) (O.found out.old) (O.found out.new) }
+    ensures found { FindsFaults (linking_faults item.now) (O.found out.old) (O.found out.new) }
 {
     match item {
         Linking::SegmentInfo(segments) => show_section(level, segments, out),
@@ -171,7 +171,7 @@ fn show_head<O: Tree>(section: &LinkingSectionReader<'_>, out: &mut O)
 /// Writes a section `linking`, and its subsections on lines under the current line.
 pub(crate) fn show_linking<O: Tree>(level: usize, section: &LinkingSectionReader<'_>, out: &mut O)
     ensures adds { Adds (O.writing out.old) (O.writing out.new) }
-    ensures found { Finds (linking_section_faulty section.now) (O.found out.old) (O.found out.new) }
+    ensures found { FindsFaults (linking_section_faults section.now) (O.found out.old) (O.found out.new) }
 {
     show_head(section, out);
     let subsections = section.subsections();
@@ -188,7 +188,7 @@ impl Show for LinkingSectionReader<'_> {
 /// Writes the subsections of a section `dylink.0` on lines under the current line.
 pub(crate) fn show_dylink<O: Tree>(level: usize, section: &Dylink0SectionReader<'_>, out: &mut O)
     ensures adds { Adds (O.writing out.old) (O.writing out.new) }
-    ensures found { Finds (dylink_faulty section.now) (O.found out.old) (O.found out.new) }
+    ensures found { FindsFaults (dylink_faults section.now) (O.found out.old) (O.found out.new) }
 {
     show_items(under(level), section.clone().unwrap(), out);
 }
@@ -354,7 +354,7 @@ fn show_relocated<O: Tree>(section: &RelocSectionReader<'_>, out: &mut O)
 /// Writes a section of relocations, and these on lines under the current line.
 pub(crate) fn show_relocations<O: Tree>(level: usize, section: &RelocSectionReader<'_>, out: &mut O)
     ensures adds { Adds (O.writing out.old) (O.writing out.new) }
-    ensures found { Finds (relocations_faulty section.now) (O.found out.old) (O.found out.new) }
+    ensures found { FindsFaults (relocations_faults section.now) (O.found out.old) (O.found out.new) }
 {
     show_relocated(section, out);
     show_list("entries", level, &section.entries(), out);

@@ -1,10 +1,11 @@
 // Lists of items.
-ghost use Rattle.std.specs.Prelude.{◌≡◌, Bool, None, false, true};
+ghost use Rattle.std.specs.Prelude.{◌≡◌, List, None, false, true};
 ghost use Rattle.std.specs.List.{flat_map};
+ghost use Rattle.wasm_base.specs.FaultAt.{FaultAt};
 ghost use Rattle.wasm_base.specs.Outcome.{Outcome};
 ghost use Rattle.wasm_base.specs.Window.{Place};
-ghost use Rattle.wasm_show.specs.Faults.{Agrees, FindsFault, FindsItem, no_lists, section_faulty, with_offset};
-ghost use Rattle.wasm_tree.specs.Found.{Finds, FindsNone};
+ghost use Rattle.wasm_show.specs.Faults.{FindsFaults, Agrees, FindsFault, FindsItem, no_lists, section_faults, with_offset};
+ghost use Rattle.wasm_tree.specs.Found.{FindsNone};
 ghost use Rattle.wasm_tree.specs.Said.{Says, SaysSome};
 ghost use Rattle.wasm_tree.specs.Tree.{Adds, has_line_feed};
 ghost use Rattle.wasm_show.specs.TypeText.{after_blank};
@@ -23,17 +24,18 @@ use wasm_tree::Tree;
 ///
 /// It is implemented for the iterators over sections, subsections and name maps.
 pub trait Items: Drop {
-    ghost use Rattle.std.specs.Prelude.{ℕ, Bool};
+    ghost use Rattle.std.specs.Prelude.{ℕ, List};
+    ghost use Rattle.wasm_base.specs.FaultAt.{FaultAt};
     ghost use Rattle.wasm_show.specs.Faults.{GivesOwed, IsFewer};
 
     /// The type of the items.
     type Item: Show;
 
-    /// Whether there is a fault among the remaining items and their lists. What this can't be said of owes nothing.
-    ghost owes: { Self → Bool → Type 0 };
+    /// The faults of the remaining items and of their lists. What this can't be said of owes nothing.
+    ghost owes: { Self → List FaultAt → Type 0 };
 
-    /// Whether a list of an item has a fault that reading the item did not look for.
-    ghost holds: { Self.Item → Bool };
+    /// The faults of an item's lists that reading the item did not look for.
+    ghost holds: { Self.Item → List FaultAt };
 
     /// How many calls of `next_item` return an item or a fault at most.
     ghost most: { Self → ℕ };
@@ -48,7 +50,7 @@ pub trait Items: Drop {
     /// alone.
     fn show_lists<O: Tree>(level: usize, item: &Self::Item, out: &mut O)
         ensures adds { Adds (O.writing out.old) (O.writing out.new) }
-        ensures found { Finds (holds item.now) (O.found out.old) (O.found out.new) };
+        ensures found { FindsFaults (holds item.now) (O.found out.old) (O.found out.new) };
 }
 
 /// Writes items, each on a line at this level that begins with its offset.
@@ -66,8 +68,8 @@ pub trait Items: Drop {
 /// ```
 pub fn show_items<I: Items, O: Tree>(level: usize, mut items: I, out: &mut O)
     ensures adds { Adds (O.writing out.old) (O.writing out.new) }
-    ensures found { (faulty : Bool) → I.owes items faulty
-        → Finds faulty (O.found out.old) (O.found out.new) }
+    ensures found { (all : List FaultAt) → I.owes items all
+        → FindsFaults all (O.found out.old) (O.found out.new) }
 {
     'items: while !out.has_stopped() {
         match items.next_item() {
@@ -80,7 +82,7 @@ pub fn show_items<I: Items, O: Tree>(level: usize, mut items: I, out: &mut O)
 // Writes an item that was read: on a tree that keeps faults alone, only those of its lists.
 fn show_read<I: Items, O: Tree>(level: usize, offset: u64, item: &I::Item, out: &mut O)
     ensures adds { Adds (O.writing out.old) (O.writing out.new) }
-    ensures found { Finds (I.holds item.now) (O.found out.old) (O.found out.new) }
+    ensures found { FindsFaults (I.holds item.now) (O.found out.old) (O.found out.new) }
 {
     if O::ONLY_FAULTS {
         I::show_lists(level, item, out);
@@ -158,8 +160,8 @@ pub fn show_section<'a, T: FromReader<'a> + Show, O: Tree>(
     out: &mut O,
 )
     ensures adds { Adds (O.writing out.old) (O.writing out.new) }
-    ensures found { (reading : Place → Outcome Bool) → Agrees T.meaning no_lists reading
-        → Finds (section_faulty reading section.now) (O.found out.old) (O.found out.new) }
+    ensures found { (reading : Place → Outcome (List FaultAt)) → Agrees T.meaning no_lists reading
+        → FindsFaults (section_faults reading section.now) (O.found out.old) (O.found out.new) }
 {
     show_items(
         level,
@@ -180,8 +182,8 @@ pub fn show_list<'a, T: FromReader<'a> + Show, O: Tree>(
 )
     requires one_line { has_line_feed name.now ≡ false }
     ensures adds { Adds (O.writing out.old) (O.writing out.new) }
-    ensures found { (reading : Place → Outcome Bool) → Agrees T.meaning no_lists reading
-        → Finds (section_faulty reading section.now) (O.found out.old) (O.found out.new) }
+    ensures found { (reading : Place → Outcome (List FaultAt)) → Agrees T.meaning no_lists reading
+        → FindsFaults (section_faults reading section.now) (O.found out.old) (O.found out.new) }
 {
     show_extent(name, section, out);
     show_section(under(level), section, out);
@@ -323,13 +325,13 @@ impl<'a, T: Subsection<'a> + Show> Items for Subsections<'a, T> {
 impl<'a> Items for NameSectionReader<'a> {
     ghost use Rattle.std.specs.Prelude.{length};
     ghost use Rattle.wasm_base.specs.Window.{place};
-    ghost use Rattle.wasm_show.specs.Faults.{OwesNames, name_faulty};
+    ghost use Rattle.wasm_show.specs.Faults.{OwesNames, name_faults};
 
     type Item = Name<'a>;
 
     ghost owes = { OwesNames };
 
-    ghost holds = { name_faulty };
+    ghost holds = { name_faults };
 
     ghost most = { λ s. length (place s.entries).rest };
 
@@ -365,13 +367,13 @@ impl<'a> Items for NameMap<'a> {
 
 impl<'a> Items for IndirectNameMap<'a> {
     ghost use Rattle.wasm_base.specs.Section.{most_items};
-    ghost use Rattle.wasm_show.specs.Faults.{OwesIndirect, indirect_faulty};
+    ghost use Rattle.wasm_show.specs.Faults.{OwesIndirect, indirect_faults};
 
     type Item = IndirectNaming<'a>;
 
     ghost owes = { OwesIndirect };
 
-    ghost holds = { indirect_faulty };
+    ghost holds = { indirect_faults };
 
     ghost most = { λ m. most_items m.entries };
 

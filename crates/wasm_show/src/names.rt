@@ -1,8 +1,7 @@
 // Texts of names.
 ghost use Rattle.std.specs.Prelude.{◌≡◌, false};
 ghost use Rattle.wasm_show.specs.CustomText.{naming_fields};
-ghost use Rattle.wasm_show.specs.Faults.{name_faulty};
-ghost use Rattle.wasm_tree.specs.Found.{Finds};
+ghost use Rattle.wasm_show.specs.Faults.{FindsFaults, name_faults};
 ghost use Rattle.wasm_tree.specs.Said.{SaysFields};
 ghost use Rattle.wasm_tree.specs.Tree.{Adds, has_line_feed};
 
@@ -76,7 +75,7 @@ fn show_module_name<O: Tree>(name: &str, range: &Range<u64>, out: &mut O)
 /// Writes the faults of the names of a subsection on a tree that keeps faults alone.
 pub(crate) fn show_maps<O: Tree>(level: usize, name: &Name<'_>, out: &mut O)
     ensures adds { Adds (O.writing out.old) (O.writing out.new) }
-    ensures found { Finds (name_faulty name.now) (O.found out.old) (O.found out.new) }
+    ensures found { FindsFaults (name_faults name.now) (O.found out.old) (O.found out.new) }
 {
     match name {
         Name::Function(names) => show_items(level, names.clone().unwrap(), out),

@@ -1,9 +1,8 @@
 // Texts of symbols.
 ghost use Rattle.std.specs.Prelude.{◌≡◌, [], ◌∷◌, false};
 ghost use Rattle.wasm_custom.specs.Linking.{symbol_at, text_if_any};
-ghost use Rattle.wasm_show.specs.Faults.{plainly, section_faulty};
+ghost use Rattle.wasm_show.specs.Faults.{FindsFaults, plainly, section_faults};
 ghost use Rattle.wasm_show.specs.SymbolText.{data_symbol_fields, defined_fields, indexed_fields, section_symbol_fields, symbol_fields, symbol_number};
-ghost use Rattle.wasm_tree.specs.Found.{Finds};
 ghost use Rattle.wasm_tree.specs.Said.{SaysFields};
 ghost use Rattle.wasm_tree.specs.Tree.{Adds, has_line_feed};
 
@@ -184,7 +183,7 @@ impl<'a> Items for Symbols<'a> {
 /// Writes the symbols of a table, each on a line at this level, with its index.
 pub(crate) fn show_symbols<O: Tree>(level: usize, symbols: &SymbolInfoMap<'_>, out: &mut O)
     ensures adds { Adds (O.writing out.old) (O.writing out.new) }
-    ensures found { Finds (section_faulty (plainly symbol_at) symbols.now)
+    ensures found { FindsFaults (section_faults (plainly symbol_at) symbols.now)
         (O.found out.old) (O.found out.new) }
 {
     let symbols = symbols.clone().unwrap().into_iter_with_offsets();

@@ -1,6 +1,6 @@
-use Rattle.wasm_show.proofs.ForCallers.{SoFar, none_so_far, import_found, all_imports_found, not_known}
+use Rattle.wasm_show.proofs.ForCallers.{SoFar, none_so_far, import_found, all_imports_found, all_stopped}
 use Rattle.wasm_show.specs.Faults.{OwesList}
-use Rattle.wasm_dumper.proofs.Common.{List, sym, ap, subst, ◌∙◌, Section, place, flattened, Found, import_numbers, Counts}
+use Rattle.wasm_dumper.proofs.Common.{List, refl, sym, ap, subst, ◌∙◌, Section, place, flattened, Found, import_numbers, Counts}
 use Rattle.wasm_dumper.proofs.Numbering.{AddsAllBut, none_shown, import_shown, all_shown, some_shown}
 use Rattle.wasm_dumper.proofs.numbered.show_imports.Goals.{in-None, in-Some+then-has_stopped}
 use Rattle.wasm_dumper.proofs.numbered.show_imports.Goals as goal
@@ -51,5 +51,6 @@ returns-clause-found g c =
     elim c.match-next.branch [
       | in-None w ↦ all_imports_found (flattened c.args.section.now.count (place c.args.section.now.reader)) c.loop-import.import-iterator
           _ _ _ c.loop-import.invariant.found w.in-None.ensures.steps
-      | in-Some+then-has_stopped w ↦ λ is h. not_known _ _ (w.has_stopped.ensures.unknown w.if-has_stopped.true)
+      | in-Some+then-has_stopped w ↦ all_stopped OwesList (flattened c.args.section.now.count (place c.args.section.now.reader)) _ _ _
+          c.loop-import.invariant.found (w.has_stopped.ensures.found w.if-has_stopped.true) _ refl
     ]

@@ -2,7 +2,7 @@ use Rattle.wasm_dumper.proofs.Common.{ℕ, refl, sym, ap, subst, ◌∙◌, arit
 use Rattle.wasm_base.specs.Section.{Items}
 use Rattle.wasm_dumper.proofs.Counted.{AddsSoFar, so_far_all, so_far_some}
 use Rattle.wasm_dumper.proofs.Counted.{none_so_far as numbers_none, one_so_far as numbers_one}
-use Rattle.wasm_show.proofs.ForCallers.{SoFar, none_so_far, item_found, all_items_found, unknown_found}
+use Rattle.wasm_show.proofs.ForCallers.{SoFar, none_so_far, item_found, all_items_found, all_stopped}
 use Rattle.wasm_show.specs.Faults.{OwesItems, no_lists}
 use Rattle.wasm_dumper.proofs.numbered.show_numbered.Goals.{in-None, in-Some+then-has_stopped}
 use Rattle.wasm_dumper.proofs.numbered.show_numbered.Goals as goal
@@ -60,5 +60,6 @@ returns-clause-found g c reading agrees =
     elim c.match-next.branch [
       | in-None w ↦ all_items_found meaning no_lists (all_items c.args.section.now) c.loop-item.item-iterator _ _ _
           c.loop-item.invariant.found w.in-None.ensures.steps _ (reading, agrees, refl)
-      | in-Some+then-has_stopped w ↦ unknown_found (OwesItems meaning no_lists) _ _ (w.has_stopped.ensures.unknown w.if-has_stopped.true) _
+      | in-Some+then-has_stopped w ↦ all_stopped (OwesItems meaning no_lists) (all_items c.args.section.now) c.loop-item.item-iterator _ _
+          c.loop-item.invariant.found (w.has_stopped.ensures.found w.if-has_stopped.true) _ (reading, agrees, refl)
     ]

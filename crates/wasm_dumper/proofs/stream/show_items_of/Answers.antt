@@ -8,9 +8,8 @@ use Rattle.wasm_items.specs.Tables.{table_at}
 use Rattle.wasm_items.specs.Tags.{tag_type_at}
 use Rattle.wasm_tree.specs.declared.numbers.Space.TheVariants.{Functions, Tables, Memories, Tags, Globals, Elements, DataSegments}
 use Rattle.wasm_dumper.proofs.Numbering.{none_numbered, shows_no_items, shows_defined, sized}
-use Rattle.std.proofs.Common.{Bool, subst}
 use Rattle.wasm_dumper.proofs.Checking.{custom_found}
-use Rattle.wasm_tree.specs.Found.{Finds}
+use Rattle.wasm_show.proofs.ForCallers.{faults_same}
 use Rattle.wasm_dumper.proofs.stream.show_items_of.Goals as goal
 
 pub returns-in-ExportSection-clause-shows : goal.returns-in-ExportSection-clause-shows
@@ -66,6 +65,5 @@ returns-in-DataSection-clause-shows g c begins = rw c.in-DataSection.is (shows_d
 
 pub returns-in-CustomSection-clause-found : goal.returns-in-CustomSection-clause-found
 returns-in-CustomSection-clause-found g c begins = rw c.in-CustomSection.is
-    (subst (λ (b : Bool). Finds b (g.O.Tree.found c.args.out.now) (g.O.Tree.found c.show_custom.new.out))
-    (custom_found c.in-CustomSection.section)
+    (faults_same _ _ (g.O.Tree.found c.args.out.now) (g.O.Tree.found c.show_custom.new.out) (custom_found c.in-CustomSection.section)
     c.show_custom.ensures.found)

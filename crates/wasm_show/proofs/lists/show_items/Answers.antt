@@ -1,5 +1,5 @@
 use Rattle.std.proofs.Common.{rules}
-use Rattle.wasm_show.proofs.Faulty.{none_so_far, one_so_far, all_found, unknown_found}
+use Rattle.wasm_show.proofs.Faulty.{none_so_far, one_so_far, all_found, all_stopped}
 use Rattle.wasm_show.proofs.lists.show_items.Goals.{else-items-test, then-items-test+in-None}
 use Rattle.wasm_show.proofs.lists.show_items.Goals as goal
 
@@ -19,9 +19,9 @@ items-preserved g c = record {
 }
 
 pub returns-clause-found : goal.returns-clause-found
-returns-clause-found g c faulty o =
+returns-clause-found g c all o =
     elim c.items-test.branch [
-      | else-items-test w ↦ unknown_found g.I.Items.owes _ _ (c.has_stopped.ensures.unknown w.items-test.false) faulty
+      | else-items-test w ↦ all_stopped g.I.Items.owes _ _ _ _ c.items.invariant.found (c.has_stopped.ensures.found w.items-test.false) all o
       | then-items-test+in-None w ↦ all_found g.I.Items.owes g.I.Items.holds _ _ w.next_item.new.self _ _
-          c.items.invariant.found w.in-None.ensures.owed faulty o
+          c.items.invariant.found w.in-None.ensures.owed all o
     ]
