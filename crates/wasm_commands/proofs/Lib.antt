@@ -1,12 +1,13 @@
 pub mod Adding
+pub mod Checking
 pub mod Choosing
 pub mod Coloring
 pub mod Editing
 pub mod Finding
 pub mod FirstNamed
 pub mod Parsing
-pub mod Running
 pub mod Refusing
+pub mod Running
 pub mod Setting
 pub mod Showing
 pub mod Stopping

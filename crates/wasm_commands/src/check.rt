@@ -1,7 +1,9 @@
 // The command `check`: reads every item of files, and reports the malformed ones.
-ghost use Rattle.std.specs.Prelude.{◌≡◌, ◌<◌, false, true, length, IfOk, Ok, Some};
+ghost use Rattle.std.specs.Prelude.{◌≡◌, ◌<◌, length, IfOk, Ok};
 ghost use Rattle.wasm_tree.specs.Written.{found_by};
-ghost use Rattle.wasm_commands.specs.Checks.{ChecksFile, ChecksFiles, ChecksInput, ChecksOpened, EndsCheck};
+ghost use Rattle.std.specs.Io.KnownBytes.{Keeps};
+ghost use Rattle.std.specs.String.{string_bytes};
+ghost use Rattle.wasm_commands.specs.Checks.{ChecksFile, ChecksFiles, ChecksInput, ChecksOpened, EndsCheck, ReadsInput, prefix_text};
 ghost use Rattle.wasm_commands.specs.Parsing.{reads_of, texts};
 ghost use Rattle.wasm_commands.specs.Systems.{FilesOf, ForwardsIfMemory, InTurn, IsForwarded, UsesFile};
 ghost use Rattle.wasm_text.specs.Calls.{device_of, from_to, writer_device};
@@ -16,10 +18,12 @@ use std::io::Write;
 use wasm_console::PIECE;
 use wasm_dumper::{Only, Shown, dump};
 use wasm_feed::{Ended, ListError, Sink, Source, WriteSink};
-use wasm_tree::Faults;
+use wasm_tree::{Faults, Tree};
 
 // Returns what comes before each fault of a file: its name and a colon.
-fn prefix_of(alloc: Global, name: &str) -> Result<String, AllocError> {
+fn prefix_of(alloc: Global, name: &str) -> Result<String, AllocError>
+    ensures { IfOk result (λ prefix. string_bytes prefix ≡ prefix_text name.now) }
+{
     format!(in alloc; "{}: ", shown_name(name))
 }
 
@@ -29,6 +33,7 @@ fn flushed<W: Write>(
     output: &mut WriteSink<W>,
 ) -> Result<bool, ListError>
     ensures found { IfOk result (λ found. checked ≡ Ok found) }
+    ensures bytes { Keeps (W.contents output.old.writer) (W.contents output.new.writer) }
     ensures forwards { IfOk result (λ found. output.new.forwarded ≡ true) }
 {
     match checked {
@@ -46,17 +51,19 @@ fn find_faults<R: Source, W: Sink>(
     input: &mut R,
     tree: &mut Faults<W>,
 ) -> Result<bool, ListError>
-    requires { found_by tree.old ≡ Some false }
-    ensures { ChecksInput (from_to (R.remaining input.old) (R.remaining input.new)) result }
+    ensures { ReadsInput (from_to (R.remaining input.old) (R.remaining input.new))
+        (found_by tree.old) (found_by tree.new) result }
 {
     let shown = Shown {
         only: &[Only::All],
         has_bytes: false,
         found: &[],
     };
-    match dump(alloc, shown, input, tree, PIECE) {
-        Ok(_) => Ok(tree.has_faults()),
-        Err(why) => Err(why),
+    dump(alloc, shown, input, tree, PIECE)?;
+    tree.write_out();
+    match tree.stopped() {
+        None => Ok(tree.has_faults()),
+        Some(why) => Err(why),
     }
 }
 
@@ -87,8 +94,13 @@ pub fn check_as<R: Source, W: Write>(
     //   each section of a known kind is read to its end without a fault by the meaning of its items,
     //   their lists and subsections, and so is each custom section with a known name, whose reader
     //   accepts its data
-    //   [its clause (`ChecksInput`: `IsFaulty`, `any_faulty`)]
-    ensures checks { ChecksInput (from_to (R.remaining input.old) (R.remaining input.new)) result.0 }
+    //   [its clause (`ChecksInput`: `NotedOf`, `any_fault`)]
+    // Proved: what `check_as` writes are these lines and no others: of each malformed item of a section's list, and of
+    //   the fault of the stream, its offset, message, number and section, in order; and of each section with an unknown
+    //   id a warning [the same (`ChecksWhole`: `lines_of`, `report_notes`)]
+    ensures checks { ChecksInput (string_bytes prefix) is_quiet
+        (from_to (R.remaining input.old) (R.remaining input.new))
+        (from_to (W.contents output.writer) (W.contents result.1.writer)) result.0 }
     ensures forwards { IfOk result.0 (λ found. result.1.forwarded ≡ true) }
 {
     let mut tree = Faults::new(alloc, output, prefix, is_quiet);
@@ -124,7 +136,8 @@ fn check_opened<S: System, R: Source, W: Write, E: Sink>(
     output: WriteSink<W>,
     errors: &mut E,
 ) -> (u8, WriteSink<W>)
-    ensures checks { ChecksOpened name.now (device_of R.remaining R.has_failed input.old input.new)
+    requires { string_bytes prefix ≡ prefix_text name.now }
+    ensures checks { ChecksOpened is_quiet name.now (device_of R.remaining R.has_failed input.old input.new)
         (writer_device W.contents output result.1)
         (device_of E.taken E.has_failed errors.old errors.new) result.0 }
     ensures forwards { IsForwarded result.0 result.1.forwarded }
@@ -143,7 +156,8 @@ fn open_and_check<S: System, W: Write, E: Sink>(
     output: WriteSink<W>,
     errors: &mut E,
 ) -> (u8, WriteSink<W>)
-    ensures checks { UsesFile (FilesOf S.System S.Input.Source system.now) (ChecksOpened name.now)
+    requires { string_bytes prefix ≡ prefix_text name.now }
+    ensures checks { UsesFile (FilesOf S.System S.Input.Source system.now) (ChecksOpened is_quiet name.now)
         name.now (writer_device W.contents output result.1)
         (device_of E.taken E.has_failed errors.old errors.new) result.0 }
     ensures forwards { IsForwarded result.0 result.1.forwarded }
@@ -165,7 +179,7 @@ fn check_file<S: System, W: Write, E: Sink>(
     output: WriteSink<W>,
     errors: &mut E,
 ) -> (u8, WriteSink<W>)
-    ensures checks { ChecksFile (FilesOf S.System S.Input.Source system.now) name.now
+    ensures checks { ChecksFile (FilesOf S.System S.Input.Source system.now) is_quiet name.now
         (writer_device W.contents output result.1)
         (device_of E.taken E.has_failed errors.old errors.new) result.0 }
     ensures forwards { IsForwarded result.0 result.1.forwarded }
@@ -185,7 +199,7 @@ fn check_files<S: System, W: Write, E: Sink>(
     output: WriteSink<W>,
     errors: &mut E,
 ) -> (u8, WriteSink<W>)
-    ensures checks { InTurn (ChecksFile (FilesOf S.System S.Input.Source system.now)) (texts names.now)
+    ensures checks { InTurn (ChecksFile (FilesOf S.System S.Input.Source system.now) is_quiet) (texts names.now)
         (writer_device W.contents output result.1)
         (device_of E.taken E.has_failed errors.old errors.new) result.0 }
     ensures forwards { 0 < length names.now → IsForwarded result.0 result.1.forwarded }

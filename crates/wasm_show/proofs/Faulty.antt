@@ -24,14 +24,14 @@ use Rattle.wasm_custom.specs.Linking.{linking_parts, linking_subsection_in}
 use Rattle.wasm_custom.specs.declared.linking.Linking.{Linking}
 use Rattle.wasm_show.specs.Faults.{AgreesOnWindows, OwesLinking, OwesSubsections, linking_faults, linking_parts_faults, linking_reading}
 use Rattle.wasm_show.specs.Faults.{or_after, or_next, subsections_faults, OwesNames, name_faults, or_name, or_next_name}
-use Rattle.wasm_show.specs.Faults.{subsections_of_names_faults, FindsFaults, faults_among, of_rest}
-use Rattle.wasm_show.specs.Faults.{no_lists, naming_reading, indirect_reading, indirect_faults, OwesNamings, OwesIndirect}
+use Rattle.wasm_show.specs.Faults.{subsections_of_names_faults, name_section_faults, window_faults, FindsFaults, faults_among, of_rest}
+use Rattle.wasm_show.specs.Faults.{no_lists, plainly, naming_reading, indirect_reading, indirect_faults, OwesNamings, OwesIndirect}
 use Rattle.wasm_items.specs.Flattened.{NextImport, found_at}
 use Rattle.wasm_items.specs.Imports.{ImportParts}
 use Rattle.wasm_items.specs.declared.imports.Import.{Import}
 use Rattle.wasm_show.specs.Faults.{AfterItem, Agrees, OwesItems, OwesList, or_later, items_faults, left_faults, FindsFault}
 use Rattle.wasm_show.specs.Faults.{FindsItem, GivesOwed, entries_faults, map_faults, or_in_order, with_offset}
-use Rattle.wasm_tree.specs.Found.{HasStopped, Noted}
+use Rattle.wasm_tree.specs.Found.{FindsNone, HasStopped, Noted}
 use Rattle.wasm_tree.specs.Notes.{Note, faults, faulty}
 use Rattle.wasm_tree.proofs.ForCallers.{finds_no_more, finds_nothing, finds_same, finds_stopped, finds_then, finds_wider, stops_still}
 
@@ -149,6 +149,20 @@ module _ {I : Type 0} (owes : I → List FaultAt → Type 0) where
   pub all_stopped : (first s : I) (old new : Option Noted) → SoFar owes first s old new → HasStopped new → (all : List FaultAt)
       → owes first all → FindsFaults all old new
   all_stopped first s old new a st all o = stop_by s all old new (a all o) st
+
+-- a reading that says of an item what counts of it agrees, where the item has no lists
+pub plain_agrees : {X Y : Type 0} (view : X → Y) (reading : Place → Outcome Y)
+    → Agrees (ReadsAs view reading) no_lists (plainly reading)
+plain_agrees view reading p (Ok x) e = ap (outcome_map no_lists) e
+plain_agrees view reading p (Err f) e = ap (outcome_map no_lists) e
+
+-- what was noted after nothing was
+pub none_then : (all : List FaultAt) (x y z : Option Noted) → FindsNone x y → FindsFaults all y z → FindsFaults all x z
+none_then all x y z f g since notes h = g since notes (f since notes h)
+
+-- what the items of a copy owe
+pub of_copy : {I : Type 0} (owed : I → List FaultAt) (copy all : I) → copy ≡ all → owed all ≡ owed copy
+of_copy owed copy all e = ap owed (sym e)
 
 -- ---- iterators over items
 
@@ -637,3 +651,25 @@ module _ (first s t : List (Result (ℕ × ImportParts) FaultAt)) (old : Option 
       → FindsFaults (faults_among first) old new
   all_imports_found new a n = all_found OwesList (no_lists {T = Import}) first s t old new a (after_import s t None n)
       (faults_among first) refl
+
+-- ---- what a copy of a section owes
+
+pub owes_names : (copy all : Ascending Window) → copy ≡ all → OwesNames copy (name_section_faults all)
+owes_names copy all e = subst (λ (m : Ascending Window). OwesNames m (name_section_faults all)) (sym e)
+    (length (place all.entries).rest, omega arith, refl)
+
+pub owes_linking : (copy all : Window) → copy ≡ all → OwesLinking copy (window_faults linking_reading all)
+owes_linking copy all e = subst (λ (w : Window). OwesLinking w (window_faults linking_reading all)) (sym e)
+    (length (place all).rest, omega arith, refl)
+
+window_agrees : {X Y : Type 0} (view : X → Y) (reading : ℕ → Window → Result Y FaultAt)
+    → AgreesOnWindows (ReadsWindowAs view reading) no_lists (λ id w. result_map no_lists (reading id w))
+window_agrees view reading id w (Ok x) e = ap (result_map no_lists) e
+window_agrees view reading id w (Err f) e = ap (result_map no_lists) e
+
+pub owes_subsections : {X Y : Type 0} (view : X → Y) (reading : ℕ → Window → Result Y FaultAt) (copy all : Window) → copy ≡ all
+    → OwesSubsections (ReadsWindowAs view reading) no_lists copy (window_faults (λ id w. result_map no_lists (reading id w)) all)
+owes_subsections view reading copy all e =
+    subst (λ (w : Window). OwesSubsections (ReadsWindowAs view reading) no_lists w
+    (window_faults (λ id w. result_map no_lists (reading id w)) all)) (sym e)
+    ((λ id w. result_map no_lists (reading id w)), window_agrees view reading, length (place all).rest, omega arith, refl)

@@ -150,7 +150,7 @@ not_stopped None is e = absurd (let no : false ≡ true = is in cc)
 not_stopped (Some why) is e = absurd (let no : Some why ≡ None = e in cc)
 
 -- nothing was noted yet
-noted_nothing : (n : Noted) → HasNoted n [] n
+pub noted_nothing : (n : Noted) → HasNoted n [] n
 noted_nothing n = record {
   puts = subst (λ (t : List ℕ). HasPut n.output t n.output) (sym (nothing_if n.is_quiet [] refl)) (nothing_put n.output);
   prefix = refl;

@@ -68,6 +68,11 @@ abbrev pub HasStopped : Option Noted → Type 0
 HasStopped None = Unit {0}
 HasStopped (Some now) = is_some now.output.why ≡ true
 
+-- All lines of a tree of faults alone are written out, unless it has stopped.
+abbrev pub AreOut : Option Noted → Type 0
+AreOut None = Unit {0}
+AreOut (Some now) = now.output.why ≡ None → now.output.waiting ≡ []
+
 -- A tree of faults alone writes in no base; any other keeps no notes.
 abbrev pub IsAlone : (only : Bool) → Style → Option Noted → Type 0
 IsAlone true style found = style ≡ Objects

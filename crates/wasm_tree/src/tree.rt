@@ -7,7 +7,7 @@ ghost use Rattle.wasm_tree.specs.Fields.{alone, field_start, field_text, named, 
 ghost use Rattle.wasm_tree.specs.Fields.{range, signed as signed_value, flag as flag_value, number_if_any as optional, hexadecimal, is_default as is_default_value};
 ghost use Rattle.wasm_text.specs.Offsets.{offset_text};
 ghost use Rattle.wasm_base.specs.FaultAt.{fault_at};
-ghost use Rattle.wasm_tree.specs.Found.{Finds, FindsNone, HasStopped};
+ghost use Rattle.wasm_tree.specs.Found.{AreOut, Finds, FindsNone, HasStopped};
 ghost use Rattle.wasm_tree.specs.Notes.{faulty};
 ghost use Rattle.wasm_tree.specs.Said.{Says, SaysInBase, SaysSome};
 ghost use Rattle.wasm_tree.specs.Tree.{Adds, AddsBytes, AddsFirst, AddsNumber, IsOut, Writing, are_lines, has_line_feed};
@@ -166,7 +166,8 @@ pub trait Tree {
         ensures adds { Adds (writing self.old) (writing self.new) }
         // Proved: a writer stops if its sink fails or an allocation does
         ensures out { IsOut (writing self.new) }
-        ensures found { FindsNone (found self.old) (found self.new) };
+        ensures found { FindsNone (found self.old) (found self.new) }
+        ensures lines { AreOut (found self.new) };
 
     /// Ends the current line, if one is begun.
     fn end(&mut self)

@@ -4,7 +4,7 @@ use Rattle.wasm_show.proofs.lists.show_items.Goals.{else-items-test, then-items-
 use Rattle.wasm_show.proofs.lists.show_items.Goals as goal
 
 pub items-init : goal.items-init
-items-init g c = record { adds = search rules; found = none_so_far _ _ _ }
+items-init g c = record { adds = search rules; found = none_so_far g.I.Items.owes c.args.items (g.O.Tree.found c.args.out.now) }
 
 pub items-preserved-in-Some : goal.items-preserved-in-Some
 items-preserved-in-Some g c = record {
