@@ -72,4 +72,5 @@ ChecksFile files is_quiet name output errors status =
 -- before.
 abbrev pub ChecksFiles : Files → List Read → (output errors : Device) → Result ℕ AllocError → Type 0
 ChecksFiles files reads output errors result =
-    RunsIfMemory (InTurn (ChecksFile files (has_option Quiet reads)) (named_files (operands_in reads))) output errors result
+    RunsIfMemory (InTurn (ChecksFile files (has_option Quiet reads)) (named_files (operands_in reads))) output errors
+    result

@@ -203,4 +203,5 @@ module _ (only : List Only) (has_bytes : Bool) (section : CustomOutline) (r : Re
       let (w, is) = reported r (outlined_part section) name section.data_offset of_section refl in
       subst (λ (x : Report). Finds (shown_notes only x) old new) (sym is)
       (found_so only no_counts name section.data_offset (outlined_part section) v w (sym (ap skip_in is) ∙ of_section) has_bytes old new
-      o.2.0 (subst₂ (λ (x : Bool) (y : Report). Finds (notes_if x y) old new) items_are empty_is (λ since notes h. f since notes (n since notes h))))
+      o.2.0 (subst₂ (λ (x : Bool) (y : Report). Finds (notes_if x y) old new) items_are empty_is
+      (λ since notes h. f since notes (n since notes h))))

@@ -33,7 +33,7 @@ use wasm_tree::{Offsets, Space, Tree, Within};
 
 // The place of the items of a payload.
 fn within<'a>(payload: &Payload<'a>) -> Within<'a>
-    ensures { note_of result.entry ≡ site_note (report_of payload.now) }
+    ensures { note_of result ≡ site_note (report_of payload.now) }
 {
     match payload {
         Payload::CustomSection(section) => Within::Custom(section.name()),

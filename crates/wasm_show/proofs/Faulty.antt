@@ -1,6 +1,7 @@
 -- What a tree finds of the items that are walked.
-use Rattle.std.proofs.Common.{◌≡◌, ℕ, zero, suc, ◌+◌, ◌-◌, ◌<◌, ◌≤◌, Bool, true, false, List, [], ◌∷◌, ◌++◌, Option, Some, None, Result, Ok, Err}
-use Rattle.std.proofs.Common.{refl, sym, ap, ap₂, append_assoc, append-nil, subst, subst₂, ◌∙◌, arith, length, length-drop, nat_eq, nat_lt, inl, inr, ◌⊎◌}
+use Rattle.std.proofs.Common.{◌≡◌, ℕ, zero, suc, ◌+◌, ◌-◌, ◌<◌, ◌≤◌, Bool, true, false, List, [], ◌∷◌, ◌++◌, Option, Some, None, Result}
+use Rattle.std.proofs.Common.{Ok, Err, refl, sym, ap, ap₂, append_assoc, append-nil, subst, subst₂, ◌∙◌, arith, length, length-drop}
+use Rattle.std.proofs.Common.{nat_eq, nat_lt, inl, inr, ◌⊎◌}
 use Rattle.std.specs.Prelude.{if◌then◌else◌}
 use Rattle.std.proofs.lemmas.Bool.Decides.{nat_tests}
 use Rattle.wasm_base.specs.Ascending.{Ascending, NextAscending, Refuses, is_above}
@@ -290,8 +291,8 @@ agrees_indirect p (Ok x) e = ap (outcome_map (λ naming. (naming.index, indirect
 agrees_indirect p (Err f) e = ap (outcome_map (λ naming. (naming.index, indirect_faults naming))) e
 
 -- what a wrapper passes on
-pub passes_on : {I T : Type 0} (owes : I → List FaultAt → Type 0) (holds : T → List FaultAt) (s t : I) (x y : Option (Result (ℕ × T) Error)) → x ≡ y
-    → GivesOwed owes holds s y t → GivesOwed owes holds s x t
+pub passes_on : {I T : Type 0} (owes : I → List FaultAt → Type 0) (holds : T → List FaultAt) (s t : I)
+    (x y : Option (Result (ℕ × T) Error)) → x ≡ y → GivesOwed owes holds s y t → GivesOwed owes holds s x t
 passes_on {I} {T} owes holds s t x y e g = subst (λ (z : Option (Result (ℕ × T) Error)). GivesOwed owes holds s z t) (sym e) g
 
 pub after_naming : (s t : Ascending Items) (offset : ℕ) (given : Option (Result Naming Error))
@@ -528,7 +529,7 @@ module _ (s t : Ascending Window) where
 -- ---- iterators over items that own lists
 
 module _ {T : Type 0} (meaning : Place → Outcome T → Type 0) (holds : T → List FaultAt) (s t : Items) where
-  -- what is left once an iterator is over
+  -- an iterator that is over owes nothing
   over_is : (reading : Place → Outcome (List FaultAt)) → t.ended ≡ true → left_faults reading t ≡ []
   over_is reading e = left_by reading t true t.left e refl
 

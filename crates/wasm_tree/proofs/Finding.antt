@@ -1,6 +1,7 @@
 -- What a tree that keeps faults alone has noted, and what its output has put of that.
 use Rattle.wasm_tree.proofs.Common.{◌≡◌, Bool, true, false, ◌||◌, refl, sym, ap, subst, ◌∙◌, List, [], ◌∷◌, ◌++◌, Option, Some, None}
-use Rattle.wasm_tree.proofs.Common.{ListError, ℕ, append_assoc, append-nil, is_some, unwrap_or, if◌then◌else◌, list_any-append, arith, flat_map, flat_map-append}
+use Rattle.wasm_tree.proofs.Common.{ListError, ℕ, append_assoc, append-nil, is_some, unwrap_or, if◌then◌else◌, list_any-append, arith}
+use Rattle.wasm_tree.proofs.Common.{flat_map, flat_map-append}
 use Rattle.wasm_tree.proofs.Common.{Writing, Put, PutsAs, Puts, PutsText, Adds, IsCut, ◌≢◌}
 use Rattle.std.proofs.Common.{Err, ap₂}
 use Rattle.wasm_text.specs.Calls.{output_failed}
@@ -244,7 +245,8 @@ noted_none old new p same since notes h = record {
   where
     was : (why : Option ListError) → old.output.why ≡ why → new.output.why ≡ None → old.output.why ≡ None
     was None e none = e
-    was (Some why) e none = sym (ap (λ (w : Writing). w.why) (still [] old.output new.output (ap (λ (y : Option ListError). is_some y) e) p))
+    was (Some why) e none = sym (ap (λ (w : Writing). w.why)
+        (still [] old.output new.output (ap (λ (y : Option ListError). is_some y) e) p))
         ∙ none
 
 -- ---- an allocation that failed

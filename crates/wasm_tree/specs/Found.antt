@@ -92,5 +92,6 @@ pub knows_none : (w : Writing) → KnowsFaults false w None
 knows_none w = record { alone = refl; stops = tt }
 
 -- of one that keeps faults alone
-pub knows_noted : (w : Writing) (now : Noted) → w.style ≡ Objects → now.output.why ≡ w.why → KnowsFaults true w (Some now)
+pub knows_noted : (w : Writing) (now : Noted) → w.style ≡ Objects → now.output.why ≡ w.why
+    → KnowsFaults true w (Some now)
 knows_noted w now style why = record { alone = style; stops = why }

@@ -358,19 +358,3 @@ pub record IsOut (w : Writing) : Type 0 where
   pub none_begun : w.why ≡ None → are_lines w.style ≡ true → w.is_begun ≡ false
   pub outside : w.why ≡ None → w.style ≡ Objects → w.spot ≡ Outside
   pub all_shown : w.why ≡ None → are_lines w.style ≡ true → w.unshown ≡ []
-
--- ---- what can be said of an output whatever was put
-
--- Bytes were put by an output that had stopped, or had not, and has now, or has not.
-abbrev pub GoesOnAs : (before after : Option ListError) → Put → Put → Type 0
-GoesOnAs (Some why) after old new = (new.why ≡ old.why) × (new.has_failed ≡ old.has_failed)
-GoesOnAs None None old new = new.has_failed ≡ old.has_failed
-GoesOnAs None (Some why) old new = (why ≢ Input)
-    × (new.has_failed ≡ output_failed {A = Unit {0}} (Err why) old.has_failed)
-
--- Some bytes were put since, which an output stops at that can't go on.
-abbrev pub GoesOnSince : (since now : Put) → Type 0
-GoesOnSince since now = GoesOnAs since.why now.why since now
-
-abbrev pub GoesOn : (old new : Put) → Type 0
-GoesOn old new = (since : Put) → GoesOnSince since old → GoesOnSince since new

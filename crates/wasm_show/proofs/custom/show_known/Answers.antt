@@ -30,7 +30,8 @@ pub returns-in-CoreDumpStack-clause-found : goal.returns-in-CoreDumpStack-clause
 returns-in-CoreDumpStack-clause-found g c = rw c.in-CoreDumpStack.is (finds_nothing _ _ c.show_fields-in-CoreDumpStack.ensures.found)
 
 pub returns-in-CoreDumpInstances-clause-found : goal.returns-in-CoreDumpInstances-clause-found
-returns-in-CoreDumpInstances-clause-found g c = rw c.in-CoreDumpInstances.is (finds_nothing _ _ c.show_fields-in-CoreDumpInstances.ensures.found)
+returns-in-CoreDumpInstances-clause-found g c = rw c.in-CoreDumpInstances.is
+    (finds_nothing _ _ c.show_fields-in-CoreDumpInstances.ensures.found)
 
 pub returns-in-CoreDumpModules-clause-found : goal.returns-in-CoreDumpModules-clause-found
 returns-in-CoreDumpModules-clause-found g c = rw c.in-CoreDumpModules.is (finds_nothing _ _ c.show_fields-in-CoreDumpModules.ensures.found)

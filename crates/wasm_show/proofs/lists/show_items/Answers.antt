@@ -21,7 +21,8 @@ items-preserved g c = record {
 pub returns-clause-found : goal.returns-clause-found
 returns-clause-found g c all o =
     elim c.items-test.branch [
-      | else-items-test w ↦ all_stopped g.I.Items.owes _ _ _ _ c.items.invariant.found (c.has_stopped.ensures.found w.items-test.false) all o
+      | else-items-test w ↦ all_stopped g.I.Items.owes _ _ _ _ c.items.invariant.found
+          (c.has_stopped.ensures.found w.items-test.false) all o
       | then-items-test+in-None w ↦ all_found g.I.Items.owes g.I.Items.holds _ _ w.next_item.new.self _ _
           c.items.invariant.found w.in-None.ensures.owed all o
     ]

@@ -51,5 +51,5 @@ returns-in-Parameter-clause-found g c = rw c.in-Parameter.is (c.show_items-in-Pa
     (rw c.unwrap-in-Parameter.ensures at c.clone-in-Parameter.ensures.cases)))
 
 pub returns-in-TagParameter-clause-found : goal.returns-in-TagParameter-clause-found
-returns-in-TagParameter-clause-found g c = rw c.in-TagParameter.is (c.show_items-in-TagParameter.ensures.found _ (of_copy indirect_names_faults _ _
-    (rw c.unwrap-in-TagParameter.ensures at c.clone-in-TagParameter.ensures.cases)))
+returns-in-TagParameter-clause-found g c = rw c.in-TagParameter.is (c.show_items-in-TagParameter.ensures.found _
+    (of_copy indirect_names_faults _ _ (rw c.unwrap-in-TagParameter.ensures at c.clone-in-TagParameter.ensures.cases)))

@@ -16,5 +16,7 @@ returns-clause-puts g c =
     let last = more_then _ (codes "\n") _ _ _ (more_same _ _ _ _ site c.put_place.ensures.puts) c.put_long-3.ensures in
     let number = more_then _ _ _ _ _ (more_same _ _ _ _ (ap number_text c.number.ensures) c.put_number.ensures.puts) last in
     let message = more_then _ _ _ _ _ (more_same _ _ _ _ (c.as_bytes.ensures.value ∙ c.message.ensures) c.put_long-2.ensures) number in
-    more_same _ _ _ _ (append_assoc (string_bytes c.args.self.now.prefix) (offset_text Hexadecimal (fault_at c.args.error.now).offset) _) (more_then _ _ _ _ _ (more_same _ _ _ _ (ap (λ n. string_bytes c.args.self.now.prefix ++ offset_text Hexadecimal n) c.offset.ensures) c.put_offset.ensures.puts)
+    let prefix = string_bytes c.args.self.now.prefix in
+    let offset = more_same _ _ _ _ (ap (λ n. prefix ++ offset_text Hexadecimal n) c.offset.ensures) c.put_offset.ensures.puts in
+    more_same _ _ _ _ (append_assoc prefix (offset_text Hexadecimal (fault_at c.args.error.now).offset) _) (more_then _ _ _ _ _ offset
     (more_then (codes ": ") _ _ _ _ c.put_long.ensures message))

@@ -8,5 +8,5 @@ use Rattle.wasm_tree.proofs.faults.Faults.put_warning.Goals as goal
 pub returns-clause-puts : goal.returns-clause-puts
 returns-clause-puts g c =
     let last = more_then _ (codes "\n") _ _ _ (more_same _ _ _ _ (ap decimal c.from.ensures) c.put_short.ensures) c.put_long-2.ensures in
-    more_same _ _ _ _ (append_assoc (string_bytes c.args.self.now.prefix) (offset_text Hexadecimal c.args.offset) _) (more_then _ _ _ _ _ c.put_offset.ensures.puts
-    (more_then (codes ": warning: unknown section id: ") _ _ _ _ c.put_long.ensures last))
+    more_same _ _ _ _ (append_assoc (string_bytes c.args.self.now.prefix) (offset_text Hexadecimal c.args.offset) _)
+    (more_then _ _ _ _ _ c.put_offset.ensures.puts (more_then (codes ": warning: unknown section id: ") _ _ _ _ c.put_long.ensures last))
