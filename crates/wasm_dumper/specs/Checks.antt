@@ -76,7 +76,7 @@ site_note (custom_section name data_offset w) = enters (custom name)
 site_note (unknown_section id contents from to) = unknown id from
 site_note other = enters outside
 
--- | what a dump on a tree of faults alone notes of what is reported, and of a stream [`report_notes`, `notes_of`,
+-- | what a dump on a tree of faults alone notes of what is reported, and of a stream [`notes_of`,
 --   `NotedOf`, `FindsAt`]
 abbrev pub report_notes : Report → List Note
 report_notes report = site_note report ∷ faults (report_faults report)

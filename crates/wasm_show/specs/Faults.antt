@@ -45,7 +45,7 @@ abbrev pub of_rest : Place → List FaultAt
 of_rest p = if nat_lt 0 (length p.rest) then at_offset SizeMismatch p.offset ∷ [] else []
 
 -- | the faults of a section's items: of each list of an item, and the first of the items themselves, or that bytes
---   remain after them; of the subsections of a window, each [`items_faults`, `subsections_faults`] <Modules, Sections>
+--   remain after them; of the subsections of a window, each [`subsections_faults`] <Modules, Sections>
 -- The faults of the items that a window has from a place on: those of their lists, and then the first of an item
 -- itself, or of the bytes that come after as many as are announced. The reading says of an item the faults of its
 -- lists.

@@ -52,7 +52,7 @@ abbrev pub HasNotedIf : (since : Noted) → List Note → Option Noted → Type 
 HasNotedIf since notes None = Unit {0}
 HasNotedIf since notes (Some now) = HasNoted since notes now
 
--- | what a tree of faults alone has noted, and what a call adds to that [`Finds`, `FindsNone`, `KnowsFaults`;
+-- | what a tree of faults alone has noted, and what a call adds to that [`FindsNone`, `KnowsFaults`;
 --   `Written.found_by`]
 -- These were noted after the others.
 abbrev pub Finds : (more : List Note) (old new : Option Noted) → Type 0

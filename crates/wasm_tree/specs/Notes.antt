@@ -45,7 +45,7 @@ site_after site (enters next) = next
 site_after site other = site
 
 -- | the lines of what is noted: of each fault its offset, message, number and section, and of each section with an
---   unknown id a warning [`lines_of`, `fault_line`, `warning_line`]
+--   unknown id a warning [`fault_line`, `warning_line`]
 abbrev pub lines_of : (prefix : List ℕ) → Site → List Note → List ℕ
 lines_of prefix site [] = []
 lines_of prefix site (n ∷ later) = note_line prefix site n ++ lines_of prefix (site_after site n) later
