@@ -1,6 +1,6 @@
 -- What a tree that keeps faults alone has noted of a stream.
 use Rattle.wasm_dumper.proofs.Common.{◌≡◌, ℕ, ◌+◌, Bool, true, false, List, [], ◌∷◌, ◌++◌, Some, None, Ok, Err, refl, sym, ap}
-use Rattle.wasm_dumper.proofs.Common.{subst, ◌∙◌, arith, Option, Outcome, Place, ReadsAs}
+use Rattle.wasm_dumper.proofs.Common.{subst, ◌∙◌, arith, Option, Outcome, Place}
 use Rattle.wasm_base.specs.Window.{place}
 use Rattle.wasm_custom.specs.Custom.{Custom}
 use Rattle.wasm_dumper.proofs.Common.{Feed, Moves, turn_after, Told}
@@ -21,17 +21,28 @@ use Rattle.wasm_text.specs.Calls.{from_to}
 use Rattle.wasm_tree.specs.Found.{Finds, FindsNone, Noted}
 use Rattle.wasm_tree.specs.Notes.{Note}
 use Rattle.wasm_tree.proofs.ForCallers.{finds_no_more, finds_nothing, finds_same, finds_then}
-use Rattle.wasm_items.specs.RecGroups.{rec_group_at, rec_group_parts}
-use Rattle.wasm_items.specs.declared.types.RecGroup.{RecGroup}
-use Rattle.std.proofs.Common.{◌-◌}
-use Rattle.wasm_base.specs.Item.{outcome_map}
+use Rattle.wasm_base.specs.FaultAt.{FaultAt}
+use Rattle.wasm_base.specs.Number.{unsigned_at}
+use Rattle.wasm_base.specs.Section.{Section}
+use Rattle.wasm_base.specs.declared.fault.NumberKind.TheVariants.{VarU32}
+use Rattle.wasm_dumper.specs.Counting.{after_number, imports_in}
+use Rattle.wasm_items.specs.Flattened.{flattened}
+use Rattle.wasm_parser.specs.ParseAnswer.{BeginsAfterCount}
+use Rattle.std.proofs.Common.{◌-◌, append-nil}
+use Rattle.std.proofs.lemmas.Grind.{flat_map-append}
 use Rattle.wasm_frames.specs.Frame.{unread}
-use Rattle.wasm_show.specs.Faults.{custom_faults, no_lists, plainly}
+use Rattle.wasm_show.specs.Faults.{custom_faults, faults_among, items_faults, section_faults}
 
-pub plain_reading : (p : Place) (o : Outcome RecGroup) → ReadsAs rec_group_parts rec_group_at p o
-    → ReadsAs no_lists (plainly rec_group_at) p o
-plain_reading p (Ok x) e = ap (outcome_map no_lists) e
-plain_reading p (Err f) e = ap (outcome_map no_lists) e
+-- the items of a section whose reader is after its count
+pub after_count : (reading : Place → Outcome (List FaultAt)) (s : Section) → BeginsAfterCount s → section_faults reading s
+    ≡ items_faults reading s.count (after_number (unsigned_at VarU32 (place (unread s.reader))) (place (unread s.reader)))
+after_count reading s b =
+    ap (λ (o : Outcome ℕ). items_faults reading s.count (after_number o (place (unread s.reader)))) (sym b)
+
+pub imports_after_count : (s : Section) → BeginsAfterCount s → faults_among (flattened s.count (place s.reader))
+    ≡ faults_among (imports_in s.count (unread s.reader))
+imports_after_count s b =
+    ap (λ (o : Outcome ℕ). faults_among (flattened s.count (after_number o (place (unread s.reader))))) (sym b)
 
 -- a custom section is what is reported of it
 pub custom_is : (s : Custom) → custom_of s.name (place s.reader).offset (unread s.reader) ≡ s

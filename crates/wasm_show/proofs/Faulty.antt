@@ -42,7 +42,7 @@ faults_append : (a b : List FaultAt) → faults (a ++ b) ≡ faults a ++ faults 
 faults_append [] b = refl
 faults_append (f ∷ a) b = ap (λ (ns : List Note). faulty f ∷ ns) (faults_append a b)
 
-pub faults_then : (a b : List FaultAt) (x y z : Option Noted) → FindsFaults a x y → FindsFaults b y z → FindsFaults (a ++ b) x z
+faults_then : (a b : List FaultAt) (x y z : Option Noted) → FindsFaults a x y → FindsFaults b y z → FindsFaults (a ++ b) x z
 faults_then a b x y z f g = finds_same (faults a ++ faults b) (faults (a ++ b)) x z (sym (faults_append a b))
     (finds_then (faults a) (faults b) x y z f g)
 

@@ -51,6 +51,6 @@ returns-clause-found g c =
     elim c.match-next.branch [
       | in-None w ↦ all_imports_found (flattened c.args.section.now.count (place c.args.section.now.reader)) c.loop-import.import-iterator
           _ _ _ c.loop-import.invariant.found w.in-None.ensures.steps
-      | in-Some+then-has_stopped w ↦ all_stopped OwesList (flattened c.args.section.now.count (place c.args.section.now.reader)) _ _ _
-          c.loop-import.invariant.found (w.has_stopped.ensures.found w.if-has_stopped.true) _ refl
+      | in-Some+then-has_stopped w ↦ all_stopped OwesList (flattened c.args.section.now.count (place c.args.section.now.reader))
+          c.loop-import.import-iterator _ _ c.loop-import.invariant.found (w.has_stopped.ensures.found w.if-has_stopped.true) _ refl
     ]

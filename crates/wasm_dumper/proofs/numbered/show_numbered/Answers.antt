@@ -21,7 +21,8 @@ loop-item-init g c =
       left = subst (λ (n : ℕ). AddsSoFar meaning c.args.space n c.of-index.result section c.into_iter-item-iterator.result now now)
           c.of-index.ensures (numbers_none meaning c.args.space c.of-index.result section _ _ (omega arith) begins);
       found = subst (λ (s : Items). SoFar (OwesItems meaning no_lists) s c.into_iter-item-iterator.result (g.O.Tree.found c.args.out.now)
-          (g.O.Tree.found c.args.out.now)) begins (none_so_far (OwesItems meaning no_lists) _ _);
+          (g.O.Tree.found c.args.out.now)) begins (none_so_far (OwesItems meaning no_lists)
+          c.into_iter-item-iterator.result (g.O.Tree.found c.args.out.now));
     }
 
 pub loop-item-preserved-else-has_stopped : goal.loop-item-preserved-else-has_stopped

@@ -1,4 +1,9 @@
+use Rattle.std.proofs.Common.{Bool, List, [], ap}
+use Rattle.std.specs.Prelude.{if◌then◌else◌}
 use Rattle.wasm_dumper.proofs.Common.{sym, ◌∙◌, report_of}
+use Rattle.wasm_dumper.specs.Checks.{notes_if}
+use Rattle.wasm_dumper.specs.Chosen.{shows_items}
+use Rattle.wasm_tree.proofs.ForCallers.{finds_same}
 use Rattle.wasm_dumper.proofs.Numbering.{shows_chosen, shows_unchosen}
 use Rattle.wasm_dumper.proofs.stream.show_chosen.Goals as goal
 
@@ -14,3 +19,12 @@ returns-else-chooses-clause-shows g c begins = shows_unchosen c.args.shown.only.
     (report_of c.args.payload.now)
     c.args.part.bytes.now _
     (sym c.chooses.ensures ∙ c.if-chooses.false)
+
+pub returns-then-chooses-clause-found : goal.returns-then-chooses-clause-found
+returns-then-chooses-clause-found g c begins since notes h =
+    let only = c.args.shown.only.now in
+    let report = report_of c.args.payload.now in
+    finds_same _ _ _ _
+    (sym (ap (λ (b : Bool). if b then notes_if (shows_items only) report else []) (sym c.chooses.ensures ∙ c.if-chooses.true)))
+    (rw c.shows_items.ensures at (c.show_payload_if.ensures.found begins)) since notes
+    (c.show_event.ensures.found since notes (c.show_bytes.ensures.found since notes h))

@@ -1,4 +1,4 @@
-use Rattle.wasm_dumper.proofs.Common.{◌≡◌, ℕ, ◌<◌, Bool, List, true, ◌++◌, Err, None, Ok, Option, Some, refl, ap, ◌∙◌, drop}
+use Rattle.wasm_dumper.proofs.Common.{◌≡◌, ℕ, ◌<◌, List, true, ◌++◌, Err, None, Ok, Option, Some, refl, ap, ◌∙◌, drop}
 use Rattle.wasm_dumper.proofs.Common.{err_from_is_err_and, seen, lending, beside}
 use Rattle.wasm_dumper.proofs.Common.{feed_of, Cursor, Fault, Feed, Skips, Stop, pushed, weight}
 use Rattle.wasm_dumper.proofs.CheckedParts.{finding_short, finds_dropped}
@@ -12,6 +12,7 @@ use Rattle.wasm_dumper.proofs.Numbering as numbering
 use Rattle.wasm_streams.specs.declared.turns.Turn.TheVariants as turn
 use Rattle.wasm_text.specs.Calls.{device_of}
 use Rattle.wasm_tree.specs.Tree.{Writing}
+use Rattle.wasm_tree.specs.Found.{Noted}
 use Rattle.wasm_dumper.proofs.stream.DumperVisitorGlobal.read_on.Given.{Over}
 use Rattle.wasm_dumper.proofs.stream.DumperVisitorGlobal.read_on.Goals.{After-show_last_fault, After-show_skipped, In-Some}
 use Rattle.wasm_dumper.proofs.stream.DumperVisitorGlobal.read_on.Goals as goal
@@ -28,7 +29,7 @@ Asks g c full before = Wanting c.args.self.now.shown.only.now c.args.self.now.sh
     (g.R.Source.remaining c.args.input.now) before (lending c.args.stored.now.items c.args.ahead.now c.args.cursor.now)
     c.args.self.now.counts (g.O.Tree.writing c.args.out.now)
 
-abbrev Seeks : (g : Over) (c : In-Some g) (full : Option (List ℕ)) (found : Option Bool) → Type 0
+abbrev Seeks : (g : Over) (c : In-Some g) (full : Option (List ℕ)) (found : Option Noted) → Type 0
 Seeks g c full found = Seeking c.args.self.now.shown.only.now full (g.R.Source.remaining c.args.input.now)
     (lending c.args.stored.now.items c.args.ahead.now c.args.cursor.now) found (g.O.Tree.found c.args.out.now)
 
@@ -57,7 +58,7 @@ fault_so g c full before d = shows_fault _ _ _ _ _ _ c.args.stored.now.items c.a
     _ _ _ refl c.show_last_fault.ensures.adds) refl
 
 -- the same of what was found
-short_so : (g : Over) (c : After-show_last_fault g) (full : Option (List ℕ)) (found : Option Bool)
+short_so : (g : Over) (c : After-show_last_fault g) (full : Option (List ℕ)) (found : Option Noted)
     → Seeks g (goal.at.After-show_last_fault g c).In-Some full found
     → Finding c.args.self.now.shown.only.now full (g.R.Source.remaining c.drop_part.new.input) (cut_feed g c) found
     (g.O.Tree.found c.flush.new.out)
