@@ -1,5 +1,5 @@
 // The command `check`: reads every item of files, and reports the malformed ones.
-ghost use Rattle.std.specs.Prelude.{◌≡◌, ◌<◌, length, IfOk, Ok};
+ghost use Rattle.std.specs.Prelude.{◌≡◌, ◌<◌, length, true, IfOk, Ok};
 ghost use Rattle.wasm_tree.specs.Written.{found_by};
 ghost use Rattle.std.specs.Io.KnownBytes.{Keeps};
 ghost use Rattle.std.specs.String.{string_bytes};
