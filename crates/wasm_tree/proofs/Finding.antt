@@ -1,16 +1,15 @@
 -- What a tree that keeps faults alone has noted, and what its output has put of that.
 use Rattle.wasm_tree.proofs.Common.{◌≡◌, Bool, true, false, ◌||◌, refl, sym, ap, subst, ◌∙◌, List, [], ◌∷◌, ◌++◌, Option, Some, None}
-use Rattle.wasm_tree.proofs.Common.{ListError, ℕ, append_assoc, append-nil, is_some, unwrap_or, if◌then◌else◌, list_any-append, arith}
+use Rattle.wasm_tree.proofs.Common.{ListError, ℕ, append_assoc, append-nil, is_some, unwrap_or, if◌then◌else◌, list_any-append}
 use Rattle.wasm_tree.proofs.Common.{flat_map, flat_map-append}
 use Rattle.wasm_tree.proofs.Common.{Writing, Put, PutsAs, Puts, PutsText, Adds, IsCut, ◌≢◌}
-use Rattle.std.proofs.Common.{Err, ap₂}
-use Rattle.wasm_text.specs.Calls.{output_failed}
+use Rattle.std.proofs.Common.{ap₂}
 use Rattle.wasm_text.specs.declared.devices.ListError.TheVariants.{Input, Memory, Output}
 use Rattle.wasm_tree.specs.declared.objects.Spot.TheVariants.{Outside}
 use Rattle.wasm_tree.specs.Found.{Finds, FindsNone, HasNoted, HasNotedIf, HasPut, HasStopped, Noted, PutsMore, as_writing, lines_since}
 use Rattle.wasm_tree.specs.Notes.{Note, Site, enters, any_fault, is_fault, last_site, lines_of, note_line, site_after}
 use Rattle.wasm_tree.specs.Said.{StopsIn}
-use Rattle.wasm_tree.specs.Tree.{IsPushed, Rest, of_objects, stopped_without_memory, with_rest}
+use Rattle.wasm_tree.specs.Tree.{Rest, of_objects, stopped_without_memory, with_rest}
 use Rattle.wasm_tree.specs.Written.{text_unstated}
 use Rattle.wasm_tree.proofs.Saying.{as_text, cut_wider, joined, nothing_by}
 use Rattle.wasm_tree.proofs.Writing.{no_input, puts_all}

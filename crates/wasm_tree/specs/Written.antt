@@ -11,7 +11,6 @@ use Rattle.wasm_tree.specs.declared.faults.Place.{Place}
 use Rattle.wasm_tree.specs.declared.faults.Place.TheVariants as place
 use Rattle.wasm_tree.specs.declared.lines.TextLines.{TextLines}
 use Rattle.wasm_tree.specs.declared.objects.Objects.{Objects}
-use Rattle.wasm_tree.specs.declared.objects.Spot.{Spot}
 use Rattle.wasm_tree.specs.declared.objects.Spot.TheVariants.{Outside}
 use Rattle.wasm_tree.specs.declared.offsets.Offsets.{Offsets}
 use Rattle.wasm_tree.specs.declared.tree.Start.{Start}

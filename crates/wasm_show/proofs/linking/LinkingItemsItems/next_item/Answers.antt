@@ -1,4 +1,3 @@
-use Rattle.wasm_custom.specs.declared.linking.Linking.{Linking}
 use Rattle.wasm_show.proofs.Faulty.{after_linking}
 use Rattle.wasm_show.proofs.linking.LinkingItemsItems.next_item.Goals as goal
 

@@ -1,9 +1,9 @@
-use Rattle.wasm_tree.proofs.Common.{codes, sym, ap, ◌∙◌, append_assoc, ◌++◌}
+use Rattle.wasm_tree.proofs.Common.{codes, ap, ◌∙◌, append_assoc, ◌++◌}
 use Rattle.wasm_base.specs.FaultAt.{fault_at}
 use Rattle.std.specs.String.{string_bytes}
 use Rattle.wasm_text.specs.declared.digits.Base.TheVariants.{Hexadecimal}
 use Rattle.wasm_tree.proofs.Common.{offset_text}
-use Rattle.wasm_base.specs.Message.{message_of, number_text}
+use Rattle.wasm_base.specs.Message.{number_text}
 use Rattle.wasm_tree.specs.Notes.{site_text}
 use Rattle.wasm_tree.specs.Written.{site_of}
 use Rattle.wasm_tree.proofs.Finding.{more_same, more_then}

@@ -1,6 +1,5 @@
-use Rattle.wasm_tree.proofs.Common.{codes, sym, ap, subst, List, ℕ}
+use Rattle.wasm_tree.proofs.Common.{codes, sym, ap}
 use Rattle.wasm_tree.specs.Fields.{quoted_text}
-use Rattle.wasm_tree.specs.Found.{PutsMore}
 use Rattle.wasm_tree.specs.Notes.{site_text}
 use Rattle.wasm_tree.specs.Written.{site_of}
 use Rattle.wasm_tree.proofs.Finding.{more_same, more_then}
