@@ -95,9 +95,10 @@ pub fn check_as<R: Source, W: Write>(
     //   their lists and subsections, and so is each custom section with a known name, whose reader
     //   accepts its data
     //   [its clause (`ChecksInput`: `NotedOf`, `any_fault`)]
-    // Proved: what `check_as` writes are these lines and no others: of each malformed item of a section's list, and of
-    //   the fault of the stream, its offset, message, number and section, in order; and of each section with an unknown
-    //   id a warning [the same (`ChecksWhole`: `lines_of`, `report_notes`)]
+    // Proved: if `check_as` ends at the end or the fault of the stream, it has written these lines and no others, in
+    //   order: of the first malformed item of each list, each refused subsection and name that is out of order, and the
+    //   fault of the stream, each with its offset, message, number and section; and a warning of each section with an
+    //   unknown id. A quiet check writes none [the same (`ChecksWhole`: `lines_of`, `report_notes`)]
     ensures checks { ChecksInput (string_bytes prefix) is_quiet
         (from_to (R.remaining input.old) (R.remaining input.new))
         (from_to (W.contents output.writer) (W.contents result.1.writer)) result.0 }
