@@ -27,6 +27,7 @@ COMMANDS = {
         "examples": ("try_examples", "the examples of the doc comments, without proofs"),
         "cargo": ("try_cargo", "the tests and the program that cargo builds of the proved sources, with nothing else"),
         "rust": ("try_rust", "the crate for Rust programs"),
+        "object": ("try_object", "the crate `object` over the crate for Rust"),
         "c": ("test_c", "the C library, its examples, and the binding for Python"),
         "cross": ("try_desktops:cross", "the C library for aarch64, under qemu"),
         "desktops": ("try_desktops", "the C library for Windows, macOS, FreeBSD and riscv64, and its packages"),
