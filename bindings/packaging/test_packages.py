@@ -162,7 +162,8 @@ class Trial:
         shutil.unpack_archive(shutil.copy(self.package("*.crate"), self.place + "/crate.tar.gz"), self.place)
         unpacked = one(self.place + "/pulleynavy-[0-9]*")
         self.run("cargo", "package", "--offline", "--quiet", "--allow-dirty", folder=unpacked)
-        # An empty index of crates, to which a crate can be published as far as that needs no network.
+        # An empty index of crates, to which a crate can be published as far as that needs no network. With `--offline`, cargo 1.96 fails before it looks
+        # at the crate: it prepares a request also for a registry in files.
         index = self.place + "/index"
         write(index + "/config.json", json.dumps({"dl": "file://" + index, "api": "http://localhost"}))
         for words in (["init"], ["add", "config.json"], ["commit", "--message", "An empty index"]):

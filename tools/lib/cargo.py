@@ -38,6 +38,23 @@ def found():
     return False
 
 
+def with_sources(parts):
+    """What has cargo build these parts of the standard library too, from Debian's sources of Rust: its words and variables. None if there are no such sources."""
+    for path in filter(os.path.exists, (shutil.which("rustc") or "", "/usr/bin/rustc")):
+        root = subprocess.run([path, "--print", "sysroot"], stdout=subprocess.PIPE, check=True).stdout.decode().strip()
+        vendored = os.path.join(root, "lib", "rustlib", "src", "rust", "library", "vendor")
+        if os.path.isdir(vendored):
+            config = ["--config", 'source.crates-io.replace-with="vendored"', "--config", "source.vendored.directory=" + json.dumps(vendored)]
+            return ["-Z", "build-std=" + parts, *config], {"RUSTC": path, "RUSTC_BOOTSTRAP": "1"}
+    return None
+
+
+def leave_out_serde(crate):
+    """Changes the manifest of a copy: cargo looks for the optional dependency too, which isn't among the crates that the standard library needs."""
+    manifest = os.path.join(crate, "Cargo.toml")
+    common.write(manifest, re.sub(r"^serde = .*\n", "", common.read(manifest), flags=re.M))
+
+
 def copied(clone):
     """Copies the files of the repository, without what was built: what cargo sees of a clone. Returns the folder of the crate in it."""
     listed = subprocess.run(["git", "ls-files", "-z"], cwd=common.TOP, stdout=subprocess.PIPE, check=True).stdout.decode().split("\0")
