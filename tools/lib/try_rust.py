@@ -2,8 +2,9 @@
 
     tools/try rust
 
-Its documentation may have no warning. For another target whose standard library the machine lacks, cargo builds `core` and `alloc` too, from Debian's
-sources of Rust. The status is 1 if a test fails. What a machine lacks (clippy, serde, sources of Rust) is said in one line. Status 3: there is no cargo.
+Its documentation may have no warning, and cargo has to be ready to publish its package, up to the upload. For another target whose standard library the
+machine lacks, cargo builds `core` and `alloc` too, from Debian's sources of Rust. The status is 1 if a test fails. What a machine lacks (clippy, serde,
+sources of Rust) is said in one line. Status 3: there is no cargo.
 """
 import os
 import shutil
@@ -12,6 +13,7 @@ import tempfile
 
 import cargo
 import common
+import packages
 
 # Clippy's lints are errors, and a result that nothing else comes from has to be used.
 CLIPPY = ["--", "-D", "warnings", "-D", "clippy::must_use_candidate"]
@@ -51,6 +53,19 @@ def built(crate, settings):
     print("the crate: built for %s" % ", ".join(OTHERS))
 
 
+def published(folder):
+    """Packages the crate, and tries to publish what is in the package."""
+    try:
+        packages.crate(folder, os.path.join(folder, "packaged"))
+    except packages.Missing as program:
+        common.skip("missing: %s, so the crate is not packaged" % program)
+        return
+    name = os.path.join(folder, "pulleynavy-" + common.version())
+    shutil.unpack_archive(name + ".crate", folder, "gztar")
+    cargo.try_to_publish(name, os.path.join(folder, "index"))
+    print("the crate: cargo would publish its package")
+
+
 def main():
     common.parser(__doc__).parse_args()
     if not cargo.found():
@@ -60,5 +75,6 @@ def main():
         cargo.offline(folder)
         settings = {"CARGO_TARGET_DIR": os.path.join(folder, "target"), "RUSTFLAGS": "-D warnings", "PULLEYNAVY_GOLDEN": common.GOLDEN}
         tested(crate, settings)
+        published(folder)
         built(crate, settings)
     return 0
