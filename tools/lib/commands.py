@@ -7,6 +7,7 @@ import common
 COMMANDS = {
     "compare": {
         "builds": ("compare_builds", "the program that cargo builds with that of Rattle's compiler, on random streams"),
+        "readings": ("compare_builds:readings", "what both compilers' programs read of random streams, in chunks too, and of items"),
         "listings": ("compare_streams:listings", "listings of random streams"),
         "check": ("compare_dumps:check", "the malformed items of random streams and of modules"),
         "checks": ("compare_checks", "what `check` of the command line, the wheel and the npm package say of changed files"),
