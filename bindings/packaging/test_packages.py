@@ -10,7 +10,6 @@ makes one with the oldest Rust that the crate needs and nothing else: the crate,
 """
 import csv
 import glob
-import json
 import os
 import re
 import shutil
@@ -162,12 +161,7 @@ class Trial:
         shutil.unpack_archive(shutil.copy(self.package("*.crate"), self.place + "/crate.tar.gz"), self.place)
         unpacked = one(self.place + "/pulleynavy-[0-9]*")
         self.run("cargo", "package", "--offline", "--quiet", "--allow-dirty", folder=unpacked)
-        # An empty index of crates, to which a crate can be published as far as that needs no network.
-        index = self.place + "/index"
-        write(index + "/config.json", json.dumps({"dl": "file://" + index, "api": "http://localhost"}))
-        for words in (["init"], ["add", "config.json"], ["commit", "--message", "An empty index"]):
-            self.run("git", "-c", "user.name=index", "-c", "user.email=index@localhost", *words, folder=index)
-        self.run("cargo", "publish", "--dry-run", "--quiet", "--allow-dirty", "--index", "file://" + index, folder=unpacked)
+        cargo.try_to_publish(unpacked, self.place + "/index")
         made = [name for name in os.listdir(unpacked) if name in ("build.rs", "lib", "target")]
         require(not made and not glob.glob(unpacked + "/**/*.a", recursive=True), "the crate has %s" % ", ".join(made or ["an archive"]))
 

@@ -13,6 +13,8 @@ DEBIAN, SERDE = "/usr/share/cargo/registry", "librust-serde-dev librust-serde-js
 # The row of crates.io for the version that Debian 12 has, as far as a resolver needs it.
 ROWS = {"serde": {"name": "serde", "vers": "1.0.152", "deps": [], "features": {"default": ["std"], "std": [], "alloc": []}, "yanked": False}}
 ROWS["serde"]["cksum"] = "bb7d1f0d3021d347a83e556fc4683dea2ea09d87bccdf88ff5c12545d89d5efb"
+# Runs a program without a network.
+ALONE = ["unshare", "--map-root-user", "--net"]
 SETTINGS = '[source.crates-io]\nreplace-with = "%s-crates"\n\n[source.%s-crates]\n%s = "%s"\n'
 
 
@@ -38,6 +40,23 @@ def found():
     return False
 
 
+def with_sources(parts):
+    """What has cargo build these parts of the standard library too, from Debian's sources of Rust: its words and variables. None if there are no such sources."""
+    for path in filter(os.path.exists, (shutil.which("rustc") or "", "/usr/bin/rustc")):
+        root = subprocess.run([path, "--print", "sysroot"], stdout=subprocess.PIPE, check=True).stdout.decode().strip()
+        vendored = os.path.join(root, "lib", "rustlib", "src", "rust", "library", "vendor")
+        if os.path.isdir(vendored):
+            config = ["--config", 'source.crates-io.replace-with="vendored"', "--config", "source.vendored.directory=" + json.dumps(vendored)]
+            return ["-Z", "build-std=" + parts, *config], {"RUSTC": path, "RUSTC_BOOTSTRAP": "1"}
+    return None
+
+
+def leave_out_serde(crate):
+    """Changes the manifest of a copy: cargo looks for the optional dependency too, which isn't among the crates that the standard library needs."""
+    manifest = os.path.join(crate, "Cargo.toml")
+    common.write(manifest, re.sub(r"^serde = .*\n", "", common.read(manifest), flags=re.M))
+
+
 def copied(clone):
     """Copies the files of the repository, without what was built: what cargo sees of a clone. Returns the folder of the crate in it."""
     listed = subprocess.run(["git", "ls-files", "-z"], cwd=common.TOP, stdout=subprocess.PIPE, check=True).stdout.decode().split("\0")
@@ -60,6 +79,16 @@ def write_registry(folder, digest=None):
     rows = {**ROWS, **({"pulleynavy": own_row(digest)} if digest else {})}
     for name, row in rows.items():
         common.write(os.path.join(folder, "index", name[:2], name[2:4], name), json.dumps(row) + "\n")
+
+
+def try_to_publish(crate, index):
+    """Has cargo publish a crate to an empty registry in a folder, up to the upload. It has no network where a user may take that away: with
+    `--offline` cargo 1.96 fails before it looks at the crate, because it prepares a request also for a registry in files."""
+    common.write(os.path.join(index, "config.json"), json.dumps({"dl": "file://" + index, "api": "http://localhost"}))
+    for words in (["init"], ["add", "config.json"], ["commit", "--message", "An empty index"]):
+        common.must(["git", "-c", "user.name=index", "-c", "user.email=index@localhost", *words], folder=index)
+    can_be_alone = shutil.which(ALONE[0]) and not subprocess.run([*ALONE, "true"], stderr=subprocess.DEVNULL).returncode
+    common.must([*(ALONE if can_be_alone else []), "cargo", "publish", "--dry-run", "--quiet", "--allow-dirty", "--index", "file://" + index], folder=crate)
 
 
 def offline(folder, registry=None):

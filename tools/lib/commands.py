@@ -7,6 +7,7 @@ import common
 COMMANDS = {
     "compare": {
         "builds": ("compare_builds", "the program that cargo builds with that of Rattle's compiler, on random streams"),
+        "readings": ("compare_builds:readings", "what both compilers' programs read of random streams, in chunks too, and of items"),
         "listings": ("compare_streams:listings", "listings of random streams"),
         "check": ("compare_dumps:check", "the malformed items of random streams and of modules"),
         "checks": ("compare_checks", "what `check` of the command line, the wheel and the npm package say of changed files"),
@@ -27,6 +28,7 @@ COMMANDS = {
         "examples": ("try_examples", "the examples of the doc comments, without proofs"),
         "cargo": ("try_cargo", "the tests and the program that cargo builds of the proved sources, with nothing else"),
         "rust": ("try_rust", "the crate for Rust programs"),
+        "object": ("try_object", "the crate `object` over the crate for Rust"),
         "c": ("test_c", "the C library, its examples, and the binding for Python"),
         "cross": ("try_desktops:cross", "the C library for aarch64, under qemu"),
         "desktops": ("try_desktops", "the C library for Windows, macOS, FreeBSD and riscv64, and its packages"),

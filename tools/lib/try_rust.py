@@ -2,8 +2,9 @@
 
     tools/try rust
 
-The status is 1 if a test fails. What a machine lacks (clippy, serde, the standard library of another target) is said in one line. Status 3: there is
-no cargo.
+Its documentation may have no warning, and cargo has to be ready to publish its package, up to the upload. For another target whose standard library the
+machine lacks, cargo builds `core` and `alloc` too, from Debian's sources of Rust. The status is 1 if a test fails. What a machine lacks (clippy, serde,
+sources of Rust) is said in one line. Status 3: there is no cargo.
 """
 import os
 import shutil
@@ -12,11 +13,12 @@ import tempfile
 
 import cargo
 import common
+import packages
 
 # Clippy's lints are errors, and a result that nothing else comes from has to be used.
 CLIPPY = ["--", "-D", "warnings", "-D", "clippy::must_use_candidate"]
-# Targets without an archive of ours, which the crate is built for.
-OTHERS = ("wasm32-unknown-unknown", "i686-unknown-linux-gnu", "s390x-unknown-linux-gnu", "x86_64-pc-windows-gnu")
+# Other targets that the crate is built for: with 32 bits, with the high byte first, without a system, and systems that can't run here.
+OTHERS = ("wasm32-unknown-unknown", "i686-unknown-linux-gnu", "s390x-unknown-linux-gnu", "x86_64-pc-windows-gnu", "aarch64-apple-darwin")
 
 
 def tested(crate, settings):
@@ -28,17 +30,40 @@ def tested(crate, settings):
             common.must(["cargo", "test", "--offline", "--quiet", *features], folder=place, env=settings)
             if clippy:
                 common.must(["cargo", "clippy", "--offline", "--quiet", "--all-targets", *features, *CLIPPY], folder=place, env=settings)
+            common.must(["cargo", "doc", "--offline", "--quiet", "--no-deps", *features], folder=place, env={**settings, "RUSTDOCFLAGS": "-D warnings"})
     common.must(["cargo", "build", "--offline", "--quiet"], folder=os.path.join(crate, "examples", "programs"), env=settings)
     print("the crate: its tests, lints and programs pass")
 
 
 def built(crate, settings):
-    """Builds the crate for each other target whose standard library this machine has."""
+    """Builds the crate for each other target, with the standard library that this machine has or one that cargo builds."""
     root = subprocess.run(["rustc", "--print", "sysroot"], stdout=subprocess.PIPE, check=True).stdout.decode().strip()
+    lacking = [target for target in OTHERS if not os.path.isdir(os.path.join(root, "lib", "rustlib", target))]
     for target in OTHERS:
-        if os.path.isdir(os.path.join(root, "lib", "rustlib", target)):
+        if target not in lacking:
             common.must(["cargo", "build", "--offline", "--quiet", "--target", target], folder=crate, env=settings)
-            print("the crate: built for %s" % target)
+    sources = cargo.with_sources("core,alloc") if lacking else ([], {})
+    if not sources:
+        common.skip("missing: rustc-web with rust-web-src, so the crate for Rust is not built for %s" % ", ".join(lacking))
+        return
+    cargo.leave_out_serde(crate)
+    for target in lacking:
+        words, variables = sources
+        common.must(["cargo", "build", "--offline", "--quiet", "--target", target, *words], folder=crate, env={**settings, **variables, "RUSTFLAGS": None})
+    print("the crate: built for %s" % ", ".join(OTHERS))
+
+
+def published(folder):
+    """Packages the crate, and tries to publish what is in the package."""
+    try:
+        packages.crate(folder, os.path.join(folder, "packaged"))
+    except packages.Missing as program:
+        common.skip("missing: %s, so the crate is not packaged" % program)
+        return
+    name = os.path.join(folder, "pulleynavy-" + common.version())
+    shutil.unpack_archive(name + ".crate", folder, "gztar")
+    cargo.try_to_publish(name, os.path.join(folder, "index"))
+    print("the crate: cargo would publish its package")
 
 
 def main():
@@ -50,5 +75,6 @@ def main():
         cargo.offline(folder)
         settings = {"CARGO_TARGET_DIR": os.path.join(folder, "target"), "RUSTFLAGS": "-D warnings", "PULLEYNAVY_GOLDEN": common.GOLDEN}
         tested(crate, settings)
+        published(folder)
         built(crate, settings)
     return 0

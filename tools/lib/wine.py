@@ -7,7 +7,6 @@ import contextlib
 import glob
 import os
 import re
-import shutil
 import subprocess
 
 import cargo
@@ -68,24 +67,14 @@ def windows(folder):
             print("wine lost a run: %s" % line, flush=True)
 
 
-def compiler():
-    """A compiler, and the sources of its standard library with all that they need."""
-    for path in (shutil.which("rustc"), "/usr/bin/rustc"):
-        if path and os.path.exists(path):
-            found = subprocess.run([path, "--print", "sysroot"], stdout=subprocess.PIPE, check=True).stdout.decode().strip()
-            library = os.path.join(found, "lib", "rustlib", "src", "rust", "library")
-            if os.path.isdir(os.path.join(library, "vendor")):
-                return path, library
-    common.skip("missing: rustc-web with rust-web-src, so the crate for Rust is not tried on Windows")
-    return None
-
-
 def wrong_crate(system):
     """What is wrong with the tests of the crate for Rust on Windows. Debian has no standard library of a
     new Rust for Windows, so cargo builds it from Debian's sources of Rust."""
-    found = compiler() if cargo.found() else None
+    found = cargo.with_sources("std,test,panic_unwind") if cargo.found() else None
     if not found:
+        common.skip("missing: rustc-web with rust-web-src, so the crate for Rust is not tried on Windows")
         return []
+    words, settings = found
     place = os.path.join(system.folder, "rust")
     crate = cargo.copied(os.path.join(place, "clone"))
     random, dll = common.write(os.path.join(place, "random.c"), RANDOM), os.path.join(place, "bcryptprimitives.dll")
@@ -94,16 +83,11 @@ def wrong_crate(system):
     values = {"dlls": "Z:" + place.replace("/", "\\"), "wine": " ".join([*system.words, "wine"]), "folder": system.folder}
     runner = common.write(os.path.join(place, "wine"), RUNNER % values)
     os.chmod(runner, 0o755)
-    # Cargo looks for the optional dependency too, and it isn't among the crates that the standard library needs.
-    manifest = os.path.join(crate, "Cargo.toml")
-    common.write(manifest, re.sub(r"^serde = .*\n", "", common.read(manifest), flags=re.M))
-    settings = {"RUSTC": found[0], "RUSTC_BOOTSTRAP": "1", "PULLEYNAVY_GOLDEN": common.GOLDEN}
-    settings |= {"CARGO_TARGET_DIR": os.path.join(place, "target")}
+    cargo.leave_out_serde(crate)
+    settings |= {"CARGO_TARGET_DIR": os.path.join(place, "target"), "PULLEYNAVY_GOLDEN": common.GOLDEN}
     name = "CARGO_TARGET_%s_" % TARGET.upper().replace("-", "_")
     settings |= {name + "LINKER": COMPILERS[0], name + "RUNNER": runner}
-    vendored = ['source.crates-io.replace-with="vendored"', 'source.vendored.directory="%s/vendor"' % found[1]]
-    words = ["cargo", "test", "--offline", "--quiet", "--tests", "--no-fail-fast", "--target", TARGET, "-Z", "build-std=std,test,panic_unwind"]
-    words += [word for setting in vendored for word in ("--config", setting)]
+    words = ["cargo", "test", "--offline", "--quiet", "--tests", "--no-fail-fast", "--target", TARGET, *words]
     done = subprocess.run(words, cwd=crate, env={**os.environ, **settings}, stdin=subprocess.DEVNULL, stdout=subprocess.PIPE, stderr=subprocess.STDOUT)
     text = done.stdout.decode(errors="replace")
     # A result for the tests in src, and one for each file of tests.
