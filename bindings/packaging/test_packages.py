@@ -99,7 +99,7 @@ def passed_in_rust(said):
 
 
 class System:
-    """A system of a release of Debian that debootstrap makes with these packages, without network and with nothing of this machine."""
+    """A system of a release of Debian that debootstrap makes with these packages, without network and with nothing of this machine but its own processes."""
 
     CLEAN = ["PATH=/usr/sbin:/usr/bin:/sbin:/bin", "HOME=/root", "LC_ALL=C.UTF-8"]
 
@@ -119,7 +119,8 @@ class System:
 
     def inside(self, command):
         """What a command prints in the system, in the home of root."""
-        words = ["unshare", "-n", "sh", "-ec", 'ip link set lo up; exec "$@"', "sh", "chroot", self.root, "/usr/bin/env", "-i", *self.CLEAN]
+        apart = ["unshare", "--net", "--pid", "--fork", "--mount-proc=%s/proc" % self.root]
+        words = [*apart, "sh", "-ec", 'ip link set lo up; exec "$@"', "sh", "chroot", self.root, "/usr/bin/env", "-i", *self.CLEAN]
         return common.must([*words, "/bin/sh", "-ec", "cd; " + command])
 
 
