@@ -6,8 +6,9 @@
 
 A kind is one of crate, wheels, scan, npm, tarballs, static, deb, dsc, chroot and oldest. `chroot` makes a system with debootstrap that has Python, gcc, Node and
 cargo, and no toolchain: a clone of the last commit whose programs run at once, `./install`, a C program through pkg-config, and each package. `oldest`
-makes one with the oldest Rust that the crate needs and nothing else: the crate, and the program and the tests of a clone. `dsc` makes one with what the source package
-builds from: it is built there with its tests, checked and installed. Each program lists the counted sections of a golden stream. Programs that are missing are reported in one line, and what needs them is skipped.
+makes one with the oldest Rust that the crate needs and nothing else: the crate, and the program and the tests of a clone. `dsc` makes one in which the
+source package is built with its tests, checked and installed. Each program lists the counted sections of a golden stream. Programs that are missing are
+reported in one line, and what needs them is skipped. So are packages that are made of prebuilt/, where the sources have moved on.
 """
 import csv
 import glob
