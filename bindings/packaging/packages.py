@@ -1,4 +1,4 @@
-"""How each package is made from prebuilt/. A package has the same bytes whenever it is made: its dates are that of the release."""
+"""How each package is made. A package has the same bytes whenever it is made: its dates are that of the release."""
 import base64
 import glob
 import gzip
@@ -32,6 +32,8 @@ DESKTOP_WHEELS = {
 
 # The folder that has the libraries for Windows and macOS, if one is given.
 targets = None
+# The kinds that are made of the sources. The others are made of prebuilt/.
+OF_SOURCES = ("crate", "dsc", "static")
 # A wheel for any Python 3, with a library for one machine.
 SETUP = """from setuptools import Distribution, setup
 from wheel.bdist_wheel import bdist_wheel
@@ -246,7 +248,7 @@ def static(folder, place):
     # No path of this machine stays in the program.
     flags = "-C target-feature=+crt-static -C strip=symbols --remap-path-prefix=%s=pulleynavy" % clone
     settings = {"RUSTFLAGS": flags, "CARGO_TARGET_DIR": os.path.join(clone, "target")}
-    common.must(["cargo", "build", "--release", "--offline", "--quiet", "--target", STATIC], clone, env=settings)
+    common.must(["cargo", "build", "--release", "--offline", "--quiet", "--bin", "pulleynavy", "--target", STATIC], clone, env=settings)
     copy_to(os.path.join(clone, "target", STATIC, "release", "pulleynavy"), top, "bin", "pulleynavy")
     for name in DOCUMENTS:
         copy_to(source(name), top, "share", "doc", "pulleynavy", name)
@@ -270,30 +272,57 @@ def repository():
     return sorted(found)
 
 
-def source_package(place):
-    """Writes the source package: the repository, and debian/ separately. Returns the path of the file that describes it."""
-    top, names = os.path.join(place, "pulleynavy-" + common.version()), repository()
-    for is_debian in (False, True):
-        for name in names:
-            if name.startswith("debian/") == is_debian:
-                copy_to(source(name), top, name)
-        if not is_debian:
-            write_tarball(os.path.join(place, "pulleynavy_%s.orig.tar.gz" % common.version()), top)
+def source_package(place, name, sources, debian):
+    """Writes a source package: these files of the repository, and separately debian/, the texts of its files by their paths. Returns the path of the file that describes it."""
+    top = os.path.join(place, "%s-%s" % (name, common.version()))
+    for path in sources:
+        copy_to(source(path), top, path)
+    write_tarball(os.path.join(place, "%s_%s.orig.tar.gz" % (name, common.version())), top)
+    for path, text in debian.items():
+        common.write(os.path.join(top, "debian", path), text)
+    os.chmod(os.path.join(top, "debian", "rules"), 0o755)
     common.must(["dpkg-source", "--build", top], place)
     return glob.glob(os.path.join(place, "*.dsc"))[0]
+
+
+def below(folder, paths):
+    """The texts of those of these files that are below a folder, by their paths there."""
+    return {os.path.relpath(path, folder): common.read(path) for path in paths if path.startswith(folder + "/")}
+
+
+def without(paths, *folders):
+    """These files, but for those below these folders."""
+    return [path for path in paths if not path.startswith(tuple(folder + "/" for folder in folders))]
 
 
 def debs(folder, place):
     """The source package for Debian, and the packages that dpkg-buildpackage makes of it. Those of another processor need no build dependencies of it."""
     for program in ("dpkg-buildpackage", "dh", "doxygen", *(MACHINES[machine]["compiler"] for machine in MACHINES)):
         needed(program)
-    described = source_package(place)
+    files = repository()
+    described = source_package(place, "pulleynavy", without(files, "debian"), below("debian", files))
     for machine, names in MACHINES.items():
         os.mkdir(os.path.join(place, machine))
         at = os.path.join(place, machine, "pulleynavy")
         common.must(["dpkg-source", "--no-check", "--extract", described, at], place)
         common.must(["dpkg-buildpackage", "--build=binary", "--no-sign", "--no-check-builddeps", "--host-arch=" + names["debian"]], at)
     for path in (path for pattern in ("*.dsc", "*.tar.*", "*/*.deb") for path in glob.glob(os.path.join(place, pattern))):
+        shutil.copy(path, folder)
+
+
+# What of debian/ the source package for distributions has too. The rest of its debian/ is in a folder of its own.
+SHARED = ("changelog", "copyright", "pulleynavy.docs", "pulleynavy.install", "source/format")
+FOR_DISTRIBUTIONS = "bindings/packaging/debian"
+
+
+def dsc(folder, place):
+    """The source package from which a distribution builds the crate and the programs by its own Rust: the sources, and nothing that is built."""
+    needed("dpkg-source")
+    files = repository()
+    debian = {**{name: common.read("debian", name) for name in SHARED}, **below(FOR_DISTRIBUTIONS, files)}
+    debian["changelog"] = re.sub("^pulleynavy ", "rust-pulleynavy ", debian["changelog"], flags=re.M)
+    source_package(place, "rust-pulleynavy", without(files, "debian", "prebuilt", FOR_DISTRIBUTIONS), debian)
+    for path in (path for pattern in ("*.dsc", "*.tar.*") for path in glob.glob(os.path.join(place, pattern))):
         shutil.copy(path, folder)
 
 

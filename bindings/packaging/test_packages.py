@@ -4,9 +4,11 @@
     tools/try packages npm wheels         some of them
     tools/try packages --targets TARGETS  also makes those for Windows and macOS, which tools/try desktops tries
 
-A kind is one of crate, wheels, scan, npm, tarballs, static, deb, chroot and oldest. `chroot` makes a system with debootstrap that has Python, gcc, Node and
+A kind is one of crate, wheels, scan, npm, tarballs, static, deb, dsc, chroot and oldest. `chroot` makes a system with debootstrap that has Python, gcc, Node and
 cargo, and no toolchain: a clone of the last commit whose programs run at once, `./install`, a C program through pkg-config, and each package. `oldest`
-makes one with the oldest Rust that the crate needs and nothing else: the crate, and the program and the tests of a clone. Each program lists the counted sections of a golden stream. Programs that are missing are reported in one line, and what needs them is skipped.
+makes one with the oldest Rust that the crate needs and nothing else: the crate, and the program and the tests of a clone. `dsc` makes one in which the
+source package is built with its tests, checked and installed. Each program lists the counted sections of a golden stream. Programs that are missing are
+reported in one line, and what needs them is skipped. So are packages that are made of prebuilt/, where the sources have moved on.
 """
 import csv
 import glob
@@ -37,6 +39,8 @@ FILES = 10_000
 # What the systems of Debian have, in which packages are tried. The second has the oldest Rust that the crate needs.
 SYSTEM = ["python3", "python3-venv", "gcc", "libc6-dev", "pkgconf", "man-db", "groff-base", "git", "nodejs", "cargo"]
 OLDEST_RUST = ("trixie", ["cargo", "libc6-dev"])
+# Where a distribution would build the source package, and install what it made: what the fields Build-Depends and Depends name is there.
+BUILDER = ("bookworm", ["build-essential", "debhelper", "cargo-web", "python3", "rustc-web", "rustfmt-web", "librust-serde-dev"])
 SERIES = packages.soname().partition(".so.")[2]
 
 
@@ -89,8 +93,13 @@ def other_pythons():
     return [path for minor, path in sorted(known.items()) if not os.path.exists("/usr/bin/python3.%d" % minor)]
 
 
+def passed_in_rust(said):
+    """How many tests passed, by what cargo printed."""
+    return sum(map(int, re.findall(r"^test result: ok\. (\d+) passed", said, re.M)))
+
+
 class System:
-    """A system of a release of Debian that debootstrap makes with these packages, without network and with nothing of this machine."""
+    """A system of a release of Debian that debootstrap makes with these packages, without network and with nothing of this machine but its own processes."""
 
     CLEAN = ["PATH=/usr/sbin:/usr/bin:/sbin:/bin", "HOME=/root", "LC_ALL=C.UTF-8"]
 
@@ -110,7 +119,8 @@ class System:
 
     def inside(self, command):
         """What a command prints in the system, in the home of root."""
-        words = ["unshare", "-n", "sh", "-ec", 'ip link set lo up; exec "$@"', "sh", "chroot", self.root, "/usr/bin/env", "-i", *self.CLEAN]
+        apart = ["unshare", "--net", "--pid", "--fork", "--mount-proc=%s/proc" % self.root]
+        words = [*apart, "sh", "-ec", 'ip link set lo up; exec "$@"', "sh", "chroot", self.root, "/usr/bin/env", "-i", *self.CLEAN]
         return common.must([*words, "/bin/sh", "-ec", "cd; " + command])
 
 
@@ -294,7 +304,7 @@ class Trial:
     def deb(self):
         """What lintian and dpkg-gensymbols say of the packages for Debian, the name and calls of the library, its pages, and CMake."""
         if common.found("lintian"):
-            made = [*glob.glob(self.dist + "/*.deb"), self.package("*.dsc")]
+            made = [*glob.glob(self.dist + "/*.deb"), self.package("pulleynavy_*.dsc")]
             self.run("lintian", "--allow-root", "--display-info", "--fail-on", "error,warning,info", *made)
         for path in glob.glob(self.dist + "/*_amd64.deb"):
             self.run("dpkg-deb", "--raw-extract", path, self.place + "/" + os.path.basename(path).split("_")[0])
@@ -360,12 +370,15 @@ class Trial:
         said = system.inside("cd js; PULLEYNAVY_STREAMS=~/streams.jsonl node --test; node --version")
         print("chroot: %s tests in Node %s" % (re.search(r"^# pass (\d+)$", said, re.M)[1], said.split()[-1]))
 
+    def project_inside(self, system, kind, registry):
+        """Writes a project that has the crate from a registry of this kind."""
+        for name, text in {"Cargo.toml": MANIFEST, "src/main.rs": source("program.rs"), ".cargo/config.toml": cargo.settings(kind, registry)}.items():
+            system.write("crate/" + name, text)
+
     def crate_inside(self, system):
         """The crate with Debian's Rust, or what that says if it is too old."""
         version = system.inside("cargo --version").split()[1]
-        files = {"Cargo.toml": MANIFEST, "src/main.rs": source("program.rs"), ".cargo/config.toml": cargo.settings("local-registry", "/root/registry")}
-        for name, text in files.items():
-            system.write("crate/" + name, text)
+        self.project_inside(system, "local-registry", "/root/registry")
         system.put(self.registry(self.place + "/registry"), "registry")
         if tuple(map(int, version.split(".")[:2])) < cargo.oldest():
             said = system.inside("cd crate; cargo run --offline -- ~/a.wasm 2>&1 || true")
@@ -374,6 +387,24 @@ class Trial:
         else:
             self.expect(system.inside("cd crate; cargo run --offline --quiet -- ~/a.wasm"), "the crate with cargo %s" % version)
             print("chroot: the crate builds with cargo %s" % version)
+
+    def dsc(self):
+        """The source package, built with its tests by Debian's Rust, and installed: the programs, and the crate for other packages."""
+        system = System(self.place, *BUILDER)
+        system.put(self.file, "a.wasm")
+        for path in glob.glob(self.dist + "/rust-pulleynavy_*"):
+            system.put(path, "sources/" + os.path.basename(path))
+        start = time.time()
+        said = system.inside("cd sources; dpkg-source --extract *.dsc built; cd built; dpkg-buildpackage --no-sign")
+        print("dsc: built in %.0f s, with %d tests" % (time.time() - start, passed_in_rust(said)), flush=True)
+        if common.found("lintian"):
+            self.run("lintian", "--allow-root", "--fail-on", "error,warning", one(system.root + "/root/sources/*.changes"))
+        system.inside("dpkg -i sources/*.deb")
+        listed = system.inside("pulleynavy list a.wasm; wasm_list < a.wasm; wasm_list strip < a.wasm | wasm_dump")
+        require(listed.count("\nend ") == 3, "the programs of the source package do not list the stream")
+        self.project_inside(system, "directory", cargo.DEBIAN)
+        for words in ("", "--features pulleynavy/serde"):
+            self.expect(system.inside("cd crate; cargo run --offline --quiet %s -- ~/a.wasm" % words), "the crate of the source package")
 
     def chroot(self):
         system = System(self.place, self.run("sh", "-c", ". /etc/os-release; echo $VERSION_CODENAME").strip(), SYSTEM)
@@ -391,8 +422,7 @@ class Trial:
         system.put(self.place + "/clone", "clone")
         listed = system.inside("cd clone; cargo run --release --offline --quiet -- list ~/a.wasm")
         require(self.end in listed, "the program of a clone does not list the stream")
-        passed = re.findall(r"(\d+) passed", system.inside("cd clone; cargo test --offline 2>&1"))
-        print("oldest: the program and %d tests run in a clone" % sum(map(int, passed)))
+        print("oldest: the program and %d tests run in a clone" % passed_in_rust(system.inside("cd clone; cargo test --offline 2>&1")))
 
 
 # The programs that each kind needs, and the kinds of packages that it tries.
@@ -405,6 +435,7 @@ KINDS = {
     "tarballs": (["cc", "pkg-config", "readelf"], ["tarballs"]),
     "static": (["cargo", "git", "readelf"], ["static"]),
     "deb": (["dpkg-deb", "nm", "readelf"], ["deb"]),
+    "dsc": (IN_CHROOT, ["dsc"]),
     "chroot": ([*IN_CHROOT, "git"], ["deb", "wheels", "npm", "crate"]),
     "oldest": (IN_CHROOT, ["crate"]),
 }
@@ -443,11 +474,14 @@ def main():
     line.add_argument("kinds", nargs="*", metavar="KIND", type=common.one_of("kind", KINDS), help=", ".join(KINDS))
     line.add_argument("--targets", metavar="TARGETS", help="the folder with the libraries for Windows and macOS")
     given = line.parse_args()
+    kinds = given.kinds or list(KINDS)
     if not common.is_prebuilt():
-        common.skip("the sources have moved on since version %s, so there are no packages of them" % common.made_from().get("version", "0"))
-        return 0
+        kinds = [kind for kind in kinds if {*KINDS[kind][1]}.issubset(packages.OF_SOURCES)]
+        since = common.made_from().get("version", "0")
+        common.skip("the sources have moved on since version %s, so the packages that are made of prebuilt/ are not tried" % since)
     os.umask(0o022)
     with tempfile.TemporaryDirectory() as dist:
-        absent = made(dist, sorted({kind for name in given.kinds for kind in KINDS[name][1]}), given.targets)
-        works = [attempt(kind, dist, absent) for kind in given.kinds or KINDS]
+        wanted = [] if kinds == list(KINDS) else sorted({kind for name in kinds for kind in KINDS[name][1]})
+        absent = made(dist, wanted, given.targets) if kinds else []
+        works = [attempt(kind, dist, absent) for kind in kinds]
     return 0 if all(works) else common.DIFFERS

@@ -26,7 +26,7 @@ def built(folder):
     """The program that cargo builds of a copy of these sources."""
     clone = os.path.join(folder, "clone")
     cargo.copied(clone)
-    common.must(["cargo", "build", "--release", "--offline", "--quiet", "--target-dir", os.path.join(folder, "target")], folder=clone)
+    common.must(["cargo", "build", "--release", "--offline", "--quiet", "--bin", "pulleynavy", "--target-dir", os.path.join(folder, "target")], folder=clone)
     return os.path.join(folder, "target", "release", "pulleynavy")
 
 
@@ -75,7 +75,7 @@ def main():
     given = common.arguments(main.__doc__, [("seed", 1), ("count", 20_000)])
     if not cargo.found():
         return common.NO_PROGRAM
-    other = try_cargo.of_rattle()
+    other = try_cargo.of_rattle("pulleynavy")
     if not other:
         common.stop(common.NO_PROGRAM, "there is no program of Rattle of these sources: tools/run --build pulleynavy")
     rng, differ, compared = random.Random(given.seed), [], 0

@@ -1,8 +1,8 @@
-"""Runs the tests and the program that cargo builds of a clone, with nothing but cargo: no network, no crates, no toolchain of Rattle.
+"""Runs the tests and the programs that cargo builds of a clone, with nothing but cargo: no network, no crates, no toolchain of Rattle.
 
     tools/try cargo
 
-It also compares what that program prints with what that of Rattle's compiler does, for each stream of tools/golden.jsonl. The status is 1 if a test
+It also compares what these programs print with what those of Rattle's compiler do, for each stream of tools/golden.jsonl. The status is 1 if a test
 fails, if fewer ran than there are, or if an output differs. Status 3: there is no cargo.
 """
 import os
@@ -18,8 +18,11 @@ import trial
 
 RESULT = re.compile(r"^test result: ok\. (\d+) passed; 0 failed", re.M)
 EXAMPLE = re.compile(r"^[ \t]*//[/!] ?```rattle$", re.M)
-# The commands whose output is compared.
-RUNS = (["list"], ["list", "--json"], ["dump", "--bytes", "--names"], ["dump", "--json"], ["check"], ["strip"])
+# The commands of each program whose output is compared. The second reads its standard input.
+RUNS = {
+    "pulleynavy": (["list"], ["list", "--json"], ["dump", "--bytes", "--names"], ["dump", "--json"], ["check"], ["strip"]),
+    "wasm_list": ([], ["strip"]),
+}
 
 
 def number_of_examples():
@@ -45,35 +48,40 @@ def tested(clone, settings):
     return None
 
 
-def differing(one, other, folder):
-    """The first run whose output, messages or status differ between both programs, or None."""
+def differing(name, one, other, folder):
+    """The first run whose output, messages or status differ between both builds of a program, or None."""
     path = os.path.join(folder, "a.wasm")
     for stream, _ in common.golden():
         common.write(path, stream)
-        for words in RUNS:
-            runs = [subprocess.run([program, *words, path], stdout=subprocess.PIPE, stderr=subprocess.PIPE) for program in (one, other)]
+        for words in RUNS[name]:
+            words = [*words, path] if name == "pulleynavy" else words
+            runs = [subprocess.run([program, *words], input=stream, stdout=subprocess.PIPE, stderr=subprocess.PIPE) for program in (one, other)]
             said = [(run.returncode, run.stdout, run.stderr) for run in runs]
             if said[0] != said[1]:
-                return "pulleynavy %s of %s: %r, and not %r" % (" ".join(words), stream.hex(), said[0], said[1])
-    print("cargo install: %d runs print what the program of Rattle does" % (len(RUNS) * len(common.golden())))
+                return "%s %s of %s: %r, and not %r" % (name, " ".join(words), stream.hex(), said[0], said[1])
+    print("cargo install: %d runs of %s print what the program of Rattle does" % (len(RUNS[name]) * len(common.golden()), name))
     return None
 
 
-def of_rattle():
+def of_rattle(name):
     """The program that Rattle's compiler built of these sources: in the gate that of `rt ci`, otherwise the prebuilt one; None if both are of others."""
-    if os.path.exists(programs.path_of("pulleynavy")) and not programs.is_older("pulleynavy"):
-        return programs.path_of("pulleynavy")
-    return os.path.join(common.PREBUILT, "pulleynavy") if common.is_prebuilt() else None
+    if os.path.exists(programs.path_of(name)) and not programs.is_older(name):
+        return programs.path_of(name)
+    return os.path.join(common.PREBUILT, name) if common.is_prebuilt() else None
 
 
 def installed(clone, folder, settings):
-    """Installs the program and compares it. Returns what is wrong, or None."""
+    """Installs the programs and compares them. Returns what is wrong, or None."""
     subprocess.run(["cargo", "install", "--quiet", "--path", ".", "--root", folder], cwd=clone, env=settings, check=True)
-    other = of_rattle()
-    if not other:
-        print("cargo install: there is no program of Rattle of these sources to compare with")
-        return None
-    return differing(os.path.join(folder, "bin", "pulleynavy"), other, folder)
+    for name in RUNS:
+        other = of_rattle(name)
+        if not other:
+            print("cargo install: there is no %s of Rattle of these sources to compare with" % name)
+            continue
+        wrong = differing(name, os.path.join(folder, "bin", name), other, folder)
+        if wrong:
+            return wrong
+    return None
 
 
 def judged(clone, settings):
