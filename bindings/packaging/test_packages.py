@@ -1,6 +1,6 @@
 """Tries each package as its user would: offline, in a place that has nothing of this repository.
 
-    tools/try packages                    makes the packages and tries all of them
+    tools/try packages                    makes the packages and tries them, but dsc and oldest only in .ci/run --all
     tools/try packages npm wheels         some of them
     tools/try packages --targets TARGETS  also makes those for Windows and macOS, which tools/try desktops tries
 
@@ -441,6 +441,10 @@ KINDS = {
 }
 
 
+# Those that build for minutes in a system of their own: tried where they are named, and before a release.
+SLOW = {"dsc", "oldest"}
+
+
 def made(dist, kinds, targets):
     """Makes packages of these kinds, or all, with those of a folder of targets if it is given. Returns the kinds for which tools/package lacks a program."""
     words = [os.path.join(common.TOP, "tools", "package"), *kinds, "--out", dist, "--twice", *(["--targets", targets] if targets else [])]
@@ -474,7 +478,7 @@ def main():
     line.add_argument("kinds", nargs="*", metavar="KIND", type=common.one_of("kind", KINDS), help=", ".join(KINDS))
     line.add_argument("--targets", metavar="TARGETS", help="the folder with the libraries for Windows and macOS")
     given = line.parse_args()
-    kinds = given.kinds or list(KINDS)
+    kinds = given.kinds or [kind for kind in KINDS if kind not in SLOW or os.environ.get("PULLEYNAVY_ALL")]
     if not common.is_prebuilt():
         kinds = [kind for kind in kinds if {*KINDS[kind][1]}.issubset(packages.OF_SOURCES)]
         since = common.made_from().get("version", "0")
