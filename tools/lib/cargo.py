@@ -83,7 +83,7 @@ def write_registry(folder, digest=None):
 
 def try_to_publish(crate, index):
     """Has cargo publish a crate to an empty registry in a folder, up to the upload. It has no network where a user may take that away: with
-    `--offline` cargo 1.96 fails before it looks at the crate, because it prepares a request also for a registry in files."""
+    `--offline` cargo 1.95 fails before it looks at the crate, because it prepares a request also for a registry in files."""
     common.write(os.path.join(index, "config.json"), json.dumps({"dl": "file://" + index, "api": "http://localhost"}))
     for words in (["init"], ["add", "config.json"], ["commit", "--message", "An empty index"]):
         common.must(["git", "-c", "user.name=index", "-c", "user.email=index@localhost", *words], folder=index)
