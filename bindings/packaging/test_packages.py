@@ -170,10 +170,10 @@ class Trial:
         self.expect(self.run("cargo", "run", "--offline", "--quiet", "--", self.file, folder=project), "the crate")
         shutil.unpack_archive(shutil.copy(self.package("*.crate"), self.place + "/crate.tar.gz"), self.place)
         unpacked = one(self.place + "/pulleynavy-[0-9]*")
-        self.run("cargo", "package", "--offline", "--quiet", "--allow-dirty", folder=unpacked)
-        cargo.try_to_publish(unpacked, self.place + "/index")
         made = [name for name in os.listdir(unpacked) if name in ("build.rs", "lib", "target")]
         require(not made and not glob.glob(unpacked + "/**/*.a", recursive=True), "the crate has %s" % ", ".join(made or ["an archive"]))
+        self.run("cargo", "package", "--offline", "--quiet", "--allow-dirty", folder=unpacked)
+        cargo.try_to_publish(unpacked, self.place + "/index")
 
     # ---- Python
 
