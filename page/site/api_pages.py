@@ -189,7 +189,7 @@ class Writer:
             target = self.code.get(first) or api_names.Target("item", crate, (first,))
             known = places.get((crate, owner, first, *rest)) or self.site.link_of(target, rest)
             # The fault with this name, or the other error of a program that lists or dumps.
-            known = known or places.get(("wasm_base", "Fault", first)) or places.get(("wasm_text", "ListError", first))
+            known = known or places.get(("wasm_base", "Fault", first)) or places.get(("wasm_io", "ListError", first))
             is_parameter = re.search(r"\b%s: " % first, "\n".join(self.source.lines))
             return known or (None if is_parameter else self.site.only_one(crate, first))
 

@@ -7,7 +7,7 @@ import re
 import common
 import documents
 
-LIBRARIES = ("wasm_base", "wasm_grammar", "wasm_frames", "wasm_items", "wasm_custom", "wasm_text", "wasm_parser", "wasm_streams", "wasm_lines", "wasm_edits", "wasm_feed", "wasm_tree", "wasm_show",
+LIBRARIES = ("wasm_base", "wasm_grammar", "wasm_frames", "wasm_items", "wasm_custom", "wasm_io", "wasm_parser", "wasm_streams", "wasm_lines", "wasm_edits", "wasm_feed", "wasm_output", "wasm_show",
              "wasm_dumper", "wasm_commands")
 CLAUSE = re.compile(r"^\s+(requires|ensures|within|decreases)\b")
 # A comment over clauses.

@@ -36,7 +36,7 @@ ABOUT = (
     "Of instructions only those of constant expressions are read, and function bodies are windows of bytes."
 )
 # The tables of tests with their results, and the comment over the rows of some sections of the standard.
-ROWS = ("crates", "wasm_rows", "stdout")
+ROWS = ("crates", "test_rows", "stdout")
 FUNCTION = re.compile(r"(    )?(?:pub(?:\(\w+\))? )?(?:final |const |unsafe )*fn (\w+)")
 TITLE = re.compile(r"# [^()]+ \((core specification|tool conventions|a proposal)[,;] (.+)\)\.?$")
 

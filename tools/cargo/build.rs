@@ -8,7 +8,7 @@ const LEFT_OUT: [&str; 1] = ["wasm_c"];
 
 /// The crates that only tests use.
 fn is_for_tests(name: &str) -> bool {
-    name.ends_with("_tests") || name == "wasm_testing"
+    name.ends_with("_tests") || name == "test_devices"
 }
 
 fn main() {

@@ -96,7 +96,7 @@ WHOLE, IN_CHUNKS = ("stream", "prefix"), ("events", "steps")
 
 
 def rows_built(folder):
-    """The program wasm_rows that cargo builds of a copy of these sources. It is a test, which is the program where a variable says so."""
+    """The program test_rows that cargo builds of a copy of these sources. It is a test, which is the program where a variable says so."""
     clone = os.path.join(folder, "clone")
     cargo.copied(clone)
     words = ["--test", "rows", "--release", "--offline", "--quiet", "--target-dir", os.path.join(folder, "target")]
@@ -114,7 +114,7 @@ def rows_of(rng, stream):
 
 
 def readings():
-    """Compares what wasm_rows reads, as cargo builds it and as Rattle's compiler does: streams, whole and in chunks, with requests and hints, and items.
+    """Compares what test_rows reads, as cargo builds it and as Rattle's compiler does: streams, whole and in chunks, with requests and hints, and items.
 
     tools/compare readings              20,000 streams and 40,000 items, from seed 1
     tools/compare readings 7 1000000    a million streams, from seed 7
@@ -126,7 +126,7 @@ def readings():
         return common.NO_PROGRAM
     rng, differ, compared = random.Random(given.seed), [], 0
     with tempfile.TemporaryDirectory() as folder:
-        both = rows_built(folder), [programs.built("wasm_rows")]
+        both = rows_built(folder), [programs.built("test_rows")]
         while compared < given.count and not differ:
             streams = some(rng, min(BATCH, given.count - compared))
             lines = [line for stream in streams for line in rows_of(rng, stream)]

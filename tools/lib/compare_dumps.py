@@ -165,7 +165,7 @@ def items_differ(words, model, cases):
 
 
 def items():
-    """Reads random byte strings as items by the program wasm_rows, and compares what it says with a model.
+    """Reads random byte strings as items by the program test_rows, and compares what it says with a model.
 
     tools/compare items                      100,000 byte strings, from seed 1
     tools/compare items 7 5000 --only table  5,000 that are read as tables, from seed 7

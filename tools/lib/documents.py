@@ -3,7 +3,7 @@
 A row of PROVED is a comment over a clause, `// Proved: WORDS [CITATION]`; without a citation the clause is cited. A row of DEFINITIONS
 is a comment over a definition, `-- | WORDS [OTHERS] <SOURCE>`, with the other definitions that it describes, and the section of the
 standard if it comes from there. A line with three spaces after its dashes or slashes continues a comment. In the documents a line such as
-`<!-- wasm_text: page digits -->` says of which modules, in this order, the table after it has the rows.
+`<!-- wasm_io: page digits -->` says of which modules, in this order, the table after it has the rows.
 """
 import glob
 import os

@@ -1,5 +1,5 @@
 """Writes include/pulleynavy.h of wasm_c, the declarations for C and C++, and those of the bindings, from the sources: structs from those of
-wasm_plain, calls from those of wasm_c.
+wasm_c_items, calls from those of wasm_c.
 
     tools/generate header            writes the files
     tools/generate header --check    says whether the files are what it would write, and writes nothing
@@ -15,7 +15,7 @@ import textwrap
 
 import common
 
-CRATE, STRUCTS, PARSER = (os.path.join(common.TOP, "crates", name) for name in ("wasm_c", "wasm_plain", "wasm_frames"))
+CRATE, STRUCTS, PARSER = (os.path.join(common.TOP, "crates", name) for name in ("wasm_c", "wasm_c_items", "wasm_frames"))
 TARGET = os.path.join(CRATE, "include", "pulleynavy.h")
 TYPES = {"u8": ("uint8_t", 1), "u32": ("uint32_t", 4), "u64": ("uint64_t", 8), "i64": ("int64_t", 8), "usize": ("size_t", 8), "bool": ("bool", 1)}
 # The order of the sources, which is that of the declarations.
@@ -156,7 +156,7 @@ def opcodes(words):
     found = dict(re.findall(r"ConstOperator::(\w+)(?: \{ \w+ \})? => \w+\(consumed, (0x\w+)", text))
     missing = set(re.findall(r"ConstOperator::(\w+)", text)) ^ set(known)
     if missing or any(int(code, 16) != known[name] for name, code in found.items()):
-        common.stop(common.DIFFERS, "the opcodes are not those of crates/wasm_plain/src/instructions.rt")
+        common.stop(common.DIFFERS, "the opcodes are not those of crates/wasm_c_items/src/instructions.rt")
     return [(re.sub(r"(?<=[0-9])(?=[A-Z])", "_", upper(name)), code) for name, code in known.items()]
 
 

@@ -28,7 +28,7 @@ def counts():
     """What there is of each kind now."""
     others = {
         "golden streams": lines("tools", "golden.jsonl"),
-        "lines of rows": lines("crates", "wasm_rows", "stdout", start=""),
+        "lines of rows": lines("crates", "test_rows", "stdout", start=""),
         "lines of cases of statuses": lines("tools", "lib", "statuses.txt", start=r"[^#\s]"),
         "worked streams of the model": lines("tools", "model", "streams.txt", start=r"[^#\s]"),
     }

@@ -194,7 +194,7 @@ def pairs_in(cells, crates):
 def wrong_clauses(path):
     """Clauses and definitions that the crates of the heading don't have, and functions without the clause that a row says."""
     for number, heading, cells in rows_of(path, 2):
-        crates = {one for crate in heading + ["wasm_plain"] * ("wasm_c" in heading) for one in common.crates_of(crate)}
+        crates = {one for crate in heading + ["wasm_c_items"] * ("wasm_c" in heading) for one in common.crates_of(crate)}
         if not heading:
             continue
         for name in [quoted for quoted in QUOTED.findall(cells[1]) if re.fullmatch(r"\w+(?:::\w+)*", quoted)]:

@@ -1,4 +1,4 @@
-"""Streams in chunks: the cases that the program wasm_rows reads, and what a model says of them."""
+"""Streams in chunks: the cases that the program test_rows reads, and what a model says of them."""
 from common import leb, number_at
 
 

@@ -14,7 +14,7 @@ WORDS = {
     "check": ["pulleynavy", "check"],
     "strip": ["pulleynavy", "strip"],
     "add": ["pulleynavy", "add"],
-    "rows": ["wasm_rows"],
+    "rows": ["test_rows"],
 }
 
 

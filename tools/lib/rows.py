@@ -1,4 +1,4 @@
-"""Tables of rows, which the program wasm_rows reads, and writes with the result of each row under it.
+"""Tables of rows, which the program test_rows reads, and writes with the result of each row under it.
 
 A row is a line: the name of a reader, features, the offset of the first byte, and bytes in hexadecimal. Its result is the lines after
 it that begin with two blanks. Empty lines and lines that begin with `#` are comments.
@@ -10,8 +10,8 @@ import subprocess
 import common
 import pieces
 
-TABLE = os.path.join(common.TOP, "crates", "wasm_rows", "stdout")
-INPUT = os.path.join(common.TOP, "crates", "wasm_rows", "stdin")
+TABLE = os.path.join(common.TOP, "crates", "test_rows", "stdout")
+INPUT = os.path.join(common.TOP, "crates", "test_rows", "stdin")
 
 # The bits of the features.
 FEATURES = {"none": 0, "memory64": 1, "compact": 2, "all": 3}

@@ -7,7 +7,7 @@
 A stream is a random one, a module with items, a FILE or a part of it, two of these joined at random places, or any of them with bytes changed, cut off or put
 in. Each is listed whole with its items and some features, stripped, edited, and read in three random cuttings, by a feeder and by a parser. Callers are built with
 sanitizers, and the bytes of each call end before a page that nothing may read. The same streams are then read by random calls in any order
-(tools/lib/sequences.c), and some are listed by `wasm_list` in little memory, and read in chunks by `wasm_rows` if it is built. Each difference is made smaller
+(tools/lib/sequences.c), and some are listed by `wasm_list` in little memory, and read in chunks by `test_rows` if it is built. Each difference is made smaller
 and printed as bytes.
 """
 import contextlib
@@ -161,7 +161,7 @@ def sequences_differ(program, streams, seed, seconds=0):
 
 def programs_differ(model, streams):
     """What differs of the programs in Rattle: of some streams the events in chunks, and the listing in little memory."""
-    rows = programs.path_of("wasm_rows")
+    rows = programs.path_of("test_rows")
     if os.access(rows, os.X_OK):
         yield from zip(streams[::10], chunks_differ([rows], model, streams[::10]))
     words = programs.command("list")

@@ -19,24 +19,24 @@ import suites
 
 # Of each check: a file, a text in it and what replaces it, by regular expression; without a text, the line is added.
 PLANTS = {
-    "layout": ("crates.txt", r"^wasm_rows:.*\n", ""),
+    "layout": ("crates.txt", r"^test_rows:.*\n", ""),
     "widths": ("crates/wasm_base/specs/Number.antt", None, "-- " + "a" * 130),
     "labels": ("docs/DUMP.md", None, "See the paper."),
     "links": ("docs/DUMP.md", None, "[Nothing](NOTHING.md)"),
     "quotes": ("docs/THEOREMS.md", r"pub differ : event ≢ other_event", "pub differ : event ≡ other_event"),
-    "edits": ("crates/wasm_text/must-fail/lost_bytes.edit", r"^old: .*$", "old: what stands nowhere"),
+    "edits": ("crates/wasm_io/must-fail/lost_bytes.edit", r"^old: .*$", "old: what stands nowhere"),
     "made": ("docs/man/pulleynavy.1", r"components", "componentz"),
     "version": ("VERSION", r"^\d+", "9"),
     "debian": ("debian/libpulleynavy0.16.symbols", r"^ pulleynavy_parse@Base.*\n", ""),
     "calls": ("tools/lib/sequences.c", r"CALL\(pulleynavy_edit,", "CALL(pulleynavy_parse,"),
     "models": ("tools/golden.jsonl", r"unexpected end-of-file", "unexpected end"),
-    "rows": ("crates/wasm_rows/stdout", r"unexpected end-of-file", "unexpected end"),
+    "rows": ("crates/test_rows/stdout", r"unexpected end-of-file", "unexpected end"),
     "golden": ("crates/program_tests/src/tests/dump/golden.rt", r"^section 1 ", "section 2 "),
     "tests": ("tools/lib/tests.txt", r"\d+", "1"),
     "kept": ("tools/golden.jsonl", r"\A.*\n", ""),
     "trusted": ("docs/SECURITY.md", r"rests on 12", "rests on 11"),
     "helps": ("tools/README.md", r"`tools/profile`", "`tools/profiles`"),
-    "imports": ("crates/wasm_lines/proofs/Lib.antt", None, "use Rattle.wasm_text.proofs.Cut.{cut}"),
+    "imports": ("crates/wasm_lines/proofs/Lib.antt", None, "use Rattle.wasm_io.proofs.Cut.{cut}"),
     "words": ("docs/DUMP.md", None, "It gives again the names."),
     "names": ("docs/DUMP.md", None, "Call `BinaryReader::read_nothing`."),
 }

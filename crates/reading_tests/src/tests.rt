@@ -1,4 +1,4 @@
-// What a row of `wasm_rows` can't show: each public call once, values, `Debug` texts, iterators that are polled after their end, and
+// What a row of `test_rows` can't show: each public call once, values, `Debug` texts, iterators that are polled after their end, and
 // allocations that fail. Tests use only what is public.
 ghost use Rattle.std.specs.Prelude.{◌+◌, ◌<◌, ◌^◌, length};
 

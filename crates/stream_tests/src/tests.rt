@@ -1,4 +1,4 @@
-// The parser, chunked input, the listing and stripping: what a row of `wasm_rows` can't show. Tests use only what is public.
+// The parser, chunked input, the listing and stripping: what a row of `test_rows` can't show. Tests use only what is public.
 mod examples;
 mod feed;
 mod parser;

@@ -242,7 +242,7 @@ def all_differences(built, streams):
 def documented():
     """A program of the examples in the doc comments of the sources, which the header has too: a function for each."""
     names, text = [], "#include <assert.h>\n#include <string.h>\n#include <pulleynavy.h>\n"
-    for path in [*common.files_of("wasm_plain"), *common.files_of("wasm_c")]:
+    for path in [*common.files_of("wasm_c_items"), *common.files_of("wasm_c")]:
         if path.endswith(".rt"):
             blocks = re.findall(r"^ */// ```c\n((?: *///.*\n)*?) */// ```$", common.read(path), re.M)
             for lines in blocks:

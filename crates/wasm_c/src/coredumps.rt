@@ -1,13 +1,13 @@
 // Core dumps.
-ghost use Rattle.wasm_plain.specs.Cursors.{StoresItems, next_by};
+ghost use Rattle.wasm_c_items.specs.Cursors.{StoresItems, next_by};
 ghost use Rattle.std.specs.Prelude.{◌≡◌};
-ghost use Rattle.wasm_plain.specs.CoreHeads.{frame_head_at, instance_head_at, started_text_at};
-ghost use Rattle.wasm_plain.specs.Coredumps.{plain_core_frame, plain_core_instance, plain_core_module, plain_core_process, plain_core_thread, plain_core_value};
-ghost use Rattle.wasm_plain.specs.Readable.{item_over};
+ghost use Rattle.wasm_c_items.specs.CoreHeads.{frame_head_at, instance_head_at, started_text_at};
+ghost use Rattle.wasm_c_items.specs.Coredumps.{plain_core_frame, plain_core_instance, plain_core_module, plain_core_process, plain_core_thread, plain_core_value};
+ghost use Rattle.wasm_c_items.specs.Readable.{item_over};
 ghost use Rattle.wasm_custom.specs.Coredumps.{module_at, value_at};
 ghost use Rattle.wasm_base.specs.declared.fault.CoreStart.TheVariants as Starts;
 
-use wasm_plain::{
+use wasm_c_items::{
     CoreFrames, CoreInstances, CoreModules, CoreProcesses, CoreThreads, CoreValues, Counted,
     PlainCoreFrame, PlainCoreInstance, PlainCoreModule, PlainCoreProcess, PlainCoreThread,
     PlainCoreValue, StoredItems, read_at, store_items,

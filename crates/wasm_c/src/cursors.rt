@@ -1,9 +1,9 @@
 // Cursors over lists.
 ghost use Rattle.std.specs.Prelude.{◌≡◌, ◌-◌};
-ghost use Rattle.wasm_plain.specs.declared.cursors.StoredItems.{StoredItems};
-ghost use Rattle.wasm_plain.specs.Cursors.{starting};
+ghost use Rattle.wasm_c_items.specs.declared.cursors.StoredItems.{StoredItems};
+ghost use Rattle.wasm_c_items.specs.Cursors.{starting};
 
-use wasm_plain::{PlainEvent, StoredItems, section_items, starting};
+use wasm_c_items::{PlainEvent, StoredItems, section_items, starting};
 
 /// Returns a cursor at the first item of a section that begins with a count, or at the data of a custom section.
 ///

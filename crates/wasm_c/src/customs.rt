@@ -1,8 +1,8 @@
 // Which known section a custom section is.
 ghost use Rattle.std.specs.Prelude.{◌≡◌};
-ghost use Rattle.wasm_plain.specs.Customs.{custom_kind};
+ghost use Rattle.wasm_c_items.specs.Customs.{custom_kind};
 
-use wasm_plain::custom_kind;
+use wasm_c_items::custom_kind;
 
 /// Returns the kind of a custom section with this name, a `pulleynavy_custom_kind`.
 ///

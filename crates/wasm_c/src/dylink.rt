@@ -1,11 +1,11 @@
 // What a dynamic linker reads.
-ghost use Rattle.wasm_plain.specs.Cursors.{StoresItems, next_by};
+ghost use Rattle.wasm_c_items.specs.Cursors.{StoresItems, next_by};
 ghost use Rattle.std.specs.Prelude.{◌≡◌};
-ghost use Rattle.wasm_plain.specs.Dylink.{plain_dylink_export, plain_dylink_import, plain_dylink_memory};
-ghost use Rattle.wasm_plain.specs.Readable.{item_over};
+ghost use Rattle.wasm_c_items.specs.Dylink.{plain_dylink_export, plain_dylink_import, plain_dylink_memory};
+ghost use Rattle.wasm_c_items.specs.Readable.{item_over};
 ghost use Rattle.wasm_custom.specs.Dylink0.{export_info_at, import_info_at, mem_info_at};
 
-use wasm_plain::{
+use wasm_c_items::{
     Counted, DylinkExports, DylinkImports, DylinkMemories, PlainDylinkExport, PlainDylinkImport,
     PlainDylinkMemory, StoredItems, read_at, store_items,
 };

@@ -1,7 +1,7 @@
 // Custom sections that are written, and edits of a stream, one a call.
-ghost use Rattle.wasm_plain.specs.Edits.{EditsPlain, EncodesPlain};
+ghost use Rattle.wasm_c_items.specs.Edits.{EditsPlain, EncodesPlain};
 
-use wasm_plain::{PlainEdited, edit_bytes, encode_custom};
+use wasm_c_items::{PlainEdited, edit_bytes, encode_custom};
 
 /// Writes a custom section to `out`, with its id and its length, and returns its size in bytes.
 ///

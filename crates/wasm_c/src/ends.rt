@@ -1,10 +1,10 @@
 // The ends of custom sections.
 ghost use Rattle.std.specs.Prelude.{◌≡◌};
 ghost use Rattle.wasm_base.specs.declared.fault.Fault.TheVariants.{CustomTrailing, NameTrailing};
-ghost use Rattle.wasm_plain.specs.Faults.{end_fault};
+ghost use Rattle.wasm_c_items.specs.Faults.{end_fault};
 
+use wasm_c_items::{PlainFault, end_fault};
 use wasm_parser::Fault;
-use wasm_plain::{PlainFault, end_fault};
 
 /// Checks that no bytes remain after the last part of a core dump's section.
 ///

@@ -1,9 +1,9 @@
 // Many events by one call.
-ghost use Rattle.wasm_plain.specs.EventBatches.{StoresEvents};
+ghost use Rattle.wasm_c_items.specs.EventBatches.{StoresEvents};
 ghost use Rattle.wasm_frames.specs.Stored.{parser_of};
 
+use wasm_c_items::{PlainEvent, next_events};
 use wasm_parser::StoredParser;
-use wasm_plain::{PlainEvent, next_events};
 
 /// Stores the next events of a stream in `out`, as calls of `pulleynavy_parse` return them one by one, and returns
 /// their number.

@@ -1,11 +1,11 @@
 // Exports.
-ghost use Rattle.wasm_plain.specs.Cursors.{StoresItems, next_by};
+ghost use Rattle.wasm_c_items.specs.Cursors.{StoresItems, next_by};
 ghost use Rattle.std.specs.Prelude.{◌≡◌};
-ghost use Rattle.wasm_plain.specs.Exports.{plain_export};
-ghost use Rattle.wasm_plain.specs.Readable.{item_over};
+ghost use Rattle.wasm_c_items.specs.Exports.{plain_export};
+ghost use Rattle.wasm_c_items.specs.Readable.{item_over};
 ghost use Rattle.wasm_items.specs.Exports.{export_at};
 
-use wasm_plain::{Counted, Exports, PlainExport, StoredItems, read_at, store_items};
+use wasm_c_items::{Counted, Exports, PlainExport, StoredItems, read_at, store_items};
 
 /// Reads an export.
 ///

@@ -1,8 +1,8 @@
 // A feeder over memory of the caller.
 ghost use Rattle.wasm_frames.specs.ParserState.{initial_state};
-ghost use Rattle.wasm_plain.specs.Feeds.{IsFinished, IsNewFeed, PushesPlain, StepsPlain};
+ghost use Rattle.wasm_c_items.specs.Feeds.{IsFinished, IsNewFeed, PushesPlain, StepsPlain};
 
-use wasm_plain::{PlainEvent, StoredFeed, finish_feed, new_feed, push_to_feed, step_feed};
+use wasm_c_items::{PlainEvent, StoredFeed, finish_feed, new_feed, push_to_feed, step_feed};
 
 /// Returns a feeder for a stream that begins at this offset and is read with these features. It holds no bytes, so any
 /// storage will do.

@@ -1,9 +1,9 @@
 // The imports of a section one by one.
 ghost use Rattle.std.specs.Prelude.{◌≡◌};
-ghost use Rattle.wasm_plain.specs.Cursors.{StoresItems};
-ghost use Rattle.wasm_plain.specs.FlatImports.{imports_from, next_flat};
+ghost use Rattle.wasm_c_items.specs.Cursors.{StoresItems};
+ghost use Rattle.wasm_c_items.specs.FlatImports.{imports_from, next_flat};
 
-use wasm_plain::{
+use wasm_c_items::{
     EveryImport, PlainEvent, PlainImport, StoredImports, section_imports, store_items,
 };
 

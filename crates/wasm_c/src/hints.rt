@@ -1,11 +1,11 @@
 // Branch hints.
-ghost use Rattle.wasm_plain.specs.Cursors.{StoresItems, next_by};
+ghost use Rattle.wasm_c_items.specs.Cursors.{StoresItems, next_by};
 ghost use Rattle.std.specs.Prelude.{◌≡◌};
-ghost use Rattle.wasm_plain.specs.Hints.{plain_branch_hint, plain_hinted_function};
-ghost use Rattle.wasm_plain.specs.Readable.{item_over};
+ghost use Rattle.wasm_c_items.specs.Hints.{plain_branch_hint, plain_hinted_function};
+ghost use Rattle.wasm_c_items.specs.Readable.{item_over};
 ghost use Rattle.wasm_custom.specs.BranchHinting.{branch_hint_at, function_hints_at};
 
-use wasm_plain::{
+use wasm_c_items::{
     BranchHints, Counted, HintedFunctions, PlainBranchHint, PlainHintedFunction, StoredItems,
     read_at, store_items,
 };

@@ -1,12 +1,12 @@
 // Imports, and names.
 ghost use Rattle.std.specs.Prelude.{None, Some, ◌≡◌};
 ghost use Rattle.wasm_base.specs.Name.{name_limit, text_at};
-ghost use Rattle.wasm_plain.specs.Cursors.{StoresItems, next_by};
-ghost use Rattle.wasm_plain.specs.Imports.{bundled_over, plain_import, plain_import_item, plain_name};
-ghost use Rattle.wasm_plain.specs.Readable.{item_over};
+ghost use Rattle.wasm_c_items.specs.Cursors.{StoresItems, next_by};
+ghost use Rattle.wasm_c_items.specs.Imports.{bundled_over, plain_import, plain_import_item, plain_name};
+ghost use Rattle.wasm_c_items.specs.Readable.{item_over};
 ghost use Rattle.wasm_items.specs.Imports.{bundle_at, item_at};
 
-use wasm_plain::{
+use wasm_c_items::{
     BundledItems, Bundles, Counted, Names, OF_TYPE, PlainImport, PlainImportItem, PlainName,
     StoredItems, Texts, TypedNames, read_at, store_items,
 };

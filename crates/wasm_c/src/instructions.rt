@@ -1,10 +1,10 @@
 // Instructions of constant expressions.
 ghost use Rattle.std.specs.Prelude.{◌≡◌};
-ghost use Rattle.wasm_plain.specs.Instructions.{plain_instruction};
-ghost use Rattle.wasm_plain.specs.Readable.{item_over};
+ghost use Rattle.wasm_c_items.specs.Instructions.{plain_instruction};
+ghost use Rattle.wasm_c_items.specs.Readable.{item_over};
 ghost use Rattle.wasm_items.specs.Instructions.{instruction_at};
 
-use wasm_plain::{Instructions, PlainInstruction, read_at};
+use wasm_c_items::{Instructions, PlainInstruction, read_at};
 
 /// Reads an instruction of a constant expression. The last one has the opcode `PULLEYNAVY_OP_END`.
 ///

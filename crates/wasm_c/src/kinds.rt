@@ -1,14 +1,14 @@
 // Tables, memories, tags and globals.
 ghost use Rattle.std.specs.Prelude.{◌≡◌};
-ghost use Rattle.wasm_plain.specs.Cursors.{StoresItems, next_by};
-ghost use Rattle.wasm_plain.specs.Kinds.{plain_global, plain_global_alone, plain_memory, plain_table, plain_table_alone, plain_tag};
-ghost use Rattle.wasm_plain.specs.Readable.{item_over};
+ghost use Rattle.wasm_c_items.specs.Cursors.{StoresItems, next_by};
+ghost use Rattle.wasm_c_items.specs.Kinds.{plain_global, plain_global_alone, plain_memory, plain_table, plain_table_alone, plain_tag};
+ghost use Rattle.wasm_c_items.specs.Readable.{item_over};
 ghost use Rattle.wasm_items.specs.Globals.{global_at, global_type_at};
 ghost use Rattle.wasm_items.specs.Memories.{memory_type_at};
 ghost use Rattle.wasm_items.specs.Tables.{table_at, table_type_at};
 ghost use Rattle.wasm_items.specs.Tags.{tag_type_at};
 
-use wasm_plain::{
+use wasm_c_items::{
     Counted, GlobalTypes, Globals, Memories, PlainGlobal, PlainMemory, PlainTable, PlainTag,
     StoredItems, TableTypes, Tables, Tags, read_at, store_items,
 };

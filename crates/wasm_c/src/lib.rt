@@ -1,4 +1,4 @@
-//! The C library: calls for C and other languages over the plain structs of `wasm_plain`.
+//! The C library: calls for C and other languages over the plain structs of `wasm_c_items`.
 #![tactic(auto)]
 
 mod coredumps;

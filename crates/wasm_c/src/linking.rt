@@ -1,11 +1,11 @@
 // What a linker reads.
-ghost use Rattle.wasm_plain.specs.Cursors.{StoresItems, next_by};
+ghost use Rattle.wasm_c_items.specs.Cursors.{StoresItems, next_by};
 ghost use Rattle.std.specs.Prelude.{◌≡◌};
-ghost use Rattle.wasm_plain.specs.Linking.{plain_comdat, plain_comdat_symbol, plain_init_function, plain_linking_segment};
-ghost use Rattle.wasm_plain.specs.Readable.{item_over};
+ghost use Rattle.wasm_c_items.specs.Linking.{plain_comdat, plain_comdat_symbol, plain_init_function, plain_linking_segment};
+ghost use Rattle.wasm_c_items.specs.Readable.{item_over};
 ghost use Rattle.wasm_custom.specs.Linking.{comdat_at, comdat_symbol_at, init_function_at, segment_at};
 
-use wasm_plain::{
+use wasm_c_items::{
     ComdatSymbols, Comdats, Counted, InitFunctions, LinkingSegments, PlainComdat,
     PlainComdatSymbol, PlainInitFunction, PlainLinkingSegment, StoredItems, read_at, store_items,
 };

@@ -1,7 +1,7 @@
 // Texts of faults by their numbers.
-ghost use Rattle.wasm_plain.specs.Texts.{SaysMessage};
+ghost use Rattle.wasm_c_items.specs.Texts.{SaysMessage};
 
-use wasm_plain::write_message_of;
+use wasm_c_items::write_message_of;
 
 /// Writes the text of the fault with this code, and returns the length of the whole text in bytes, at most 80.
 ///

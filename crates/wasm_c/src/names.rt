@@ -1,12 +1,12 @@
 // Names and subsections.
-ghost use Rattle.wasm_plain.specs.Cursors.{StoresItems, next_indirect_namings, next_name_subsection, next_namings, next_subsection};
+ghost use Rattle.wasm_c_items.specs.Cursors.{StoresItems, next_indirect_namings, next_name_subsection, next_namings, next_subsection};
 ghost use Rattle.std.specs.Prelude.{◌≡◌};
 ghost use Rattle.wasm_base.specs.Subsections.{subsection_at};
-ghost use Rattle.wasm_plain.specs.Names.{plain_indirect, plain_naming, plain_subsection};
-ghost use Rattle.wasm_plain.specs.Readable.{item_over};
+ghost use Rattle.wasm_c_items.specs.Names.{plain_indirect, plain_naming, plain_subsection};
+ghost use Rattle.wasm_c_items.specs.Readable.{item_over};
 ghost use Rattle.wasm_custom.specs.Names.{indirect_naming_at, naming_at};
 
-use wasm_plain::{
+use wasm_c_items::{
     AnySubsections, Ascending, IndirectNamings, NameSubsections, Namings, PlainIndirectNaming,
     PlainNaming, PlainSubsection, StoredItems, Subsections, read_at, store_items,
 };

@@ -3,11 +3,11 @@ ghost use Rattle.std.specs.Prelude.{◌≡◌};
 ghost use Rattle.wasm_base.specs.Number.{unsigned_at};
 ghost use Rattle.wasm_base.specs.Signed.{signed_at};
 ghost use Rattle.wasm_base.specs.declared.fault.NumberKind.TheVariants.{VarI32, VarI64, VarS33, VarU32, VarU64};
-ghost use Rattle.wasm_plain.specs.Cursors.{StoresItems, next_by};
-ghost use Rattle.wasm_plain.specs.Readable.{item_over};
-ghost use Rattle.wasm_plain.specs.Numbers.{plain_number, plain_signed};
+ghost use Rattle.wasm_c_items.specs.Cursors.{StoresItems, next_by};
+ghost use Rattle.wasm_c_items.specs.Readable.{item_over};
+ghost use Rattle.wasm_c_items.specs.Numbers.{plain_number, plain_signed};
 
-use wasm_plain::{
+use wasm_c_items::{
     BlockTypes, Counted, LongNumbers, LongSignedNumbers, Numbers, PlainNumber, PlainSigned,
     SignedNumbers, StoredItems, read_at, store_items,
 };

@@ -1,13 +1,13 @@
 // A parser: each call takes plain numbers and bytes of the caller, and none has a condition.
 ghost use Rattle.std.specs.Prelude.{◌≡◌};
 ghost use Rattle.wasm_frames.specs.ParserState.{initial_state};
-ghost use Rattle.wasm_plain.specs.Events.{ParsesPlain};
+ghost use Rattle.wasm_c_items.specs.Events.{ParsesPlain};
 ghost use Rattle.wasm_frames.specs.Stored.{parser_of, skipped_of};
-ghost use Rattle.wasm_plain.specs.Skips.{SkipsPlain};
-ghost use Rattle.wasm_plain.specs.Texts.{SaysFault};
+ghost use Rattle.wasm_c_items.specs.Skips.{SkipsPlain};
+ghost use Rattle.wasm_c_items.specs.Texts.{SaysFault};
 
+use wasm_c_items::{PlainEvent, new_parser, parse, skip, write_next_fault};
 use wasm_parser::StoredParser;
-use wasm_plain::{PlainEvent, new_parser, parse, skip, write_next_fault};
 
 /// Returns a parser for a stream that begins at this offset and is read with these features.
 #[unsafe(no_mangle)]

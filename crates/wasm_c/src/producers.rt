@@ -1,11 +1,11 @@
 // Producers.
-ghost use Rattle.wasm_plain.specs.Cursors.{StoresItems, next_by};
+ghost use Rattle.wasm_c_items.specs.Cursors.{StoresItems, next_by};
 ghost use Rattle.std.specs.Prelude.{◌≡◌};
-ghost use Rattle.wasm_plain.specs.Producers.{plain_producers_field, plain_producers_value};
-ghost use Rattle.wasm_plain.specs.Readable.{item_over};
+ghost use Rattle.wasm_c_items.specs.Producers.{plain_producers_field, plain_producers_value};
+ghost use Rattle.wasm_c_items.specs.Readable.{item_over};
 ghost use Rattle.wasm_custom.specs.Producers.{field_at, field_value_at};
 
-use wasm_plain::{
+use wasm_c_items::{
     Counted, PlainProducersField, PlainProducersValue, ProducersFields, ProducersValues,
     StoredItems, read_at, store_items,
 };

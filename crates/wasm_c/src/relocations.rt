@@ -1,11 +1,11 @@
 // Relocations.
-ghost use Rattle.wasm_plain.specs.Cursors.{StoresItems, next_by};
+ghost use Rattle.wasm_c_items.specs.Cursors.{StoresItems, next_by};
 ghost use Rattle.std.specs.Prelude.{◌≡◌};
-ghost use Rattle.wasm_plain.specs.Readable.{item_over};
-ghost use Rattle.wasm_plain.specs.Relocations.{plain_relocation};
+ghost use Rattle.wasm_c_items.specs.Readable.{item_over};
+ghost use Rattle.wasm_c_items.specs.Relocations.{plain_relocation};
 ghost use Rattle.wasm_custom.specs.Reloc.{relocation_at};
 
-use wasm_plain::{Counted, PlainRelocation, Relocations, StoredItems, read_at, store_items};
+use wasm_c_items::{Counted, PlainRelocation, Relocations, StoredItems, read_at, store_items};
 
 /// Reads a relocation.
 ///

@@ -1,13 +1,13 @@
 // Constant expressions, element segments and data segments.
-ghost use Rattle.wasm_plain.specs.Cursors.{StoresItems, next_by};
+ghost use Rattle.wasm_c_items.specs.Cursors.{StoresItems, next_by};
 ghost use Rattle.std.specs.Prelude.{◌≡◌};
-ghost use Rattle.wasm_plain.specs.Readable.{item_over};
-ghost use Rattle.wasm_plain.specs.Segments.{plain_data, plain_element, plain_expression};
+ghost use Rattle.wasm_c_items.specs.Readable.{item_over};
+ghost use Rattle.wasm_c_items.specs.Segments.{plain_data, plain_element, plain_expression};
 ghost use Rattle.wasm_items.specs.Data.{data_at};
 ghost use Rattle.wasm_items.specs.Elements.{element_at};
 ghost use Rattle.wasm_items.specs.Init.{expression_at};
 
-use wasm_plain::{
+use wasm_c_items::{
     Counted, DataSegments, ElementSegments, Expressions, PlainData, PlainElement, PlainExpression,
     StoredItems, read_at, store_items,
 };

@@ -1,7 +1,7 @@
 // Streams without their custom sections.
-ghost use Rattle.wasm_plain.specs.Strips.{StripsPlain};
+ghost use Rattle.wasm_c_items.specs.Strips.{StripsPlain};
 
-use wasm_plain::{PlainStripped, strip_bytes};
+use wasm_c_items::{PlainStripped, strip_bytes};
 
 /// Removes the custom sections from a whole stream, in place. With `keep_names` the sections named `name` stay.
 ///

@@ -1,12 +1,12 @@
 // Symbols.
-ghost use Rattle.wasm_plain.specs.Cursors.{StoresItems, next_by};
+ghost use Rattle.wasm_c_items.specs.Cursors.{StoresItems, next_by};
 ghost use Rattle.std.specs.Prelude.{◌≡◌};
-ghost use Rattle.wasm_plain.specs.Readable.{item_over};
-ghost use Rattle.wasm_plain.specs.Symbols.{linking_version_at, plain_symbol};
-ghost use Rattle.wasm_plain.specs.Numbers.{plain_number};
+ghost use Rattle.wasm_c_items.specs.Readable.{item_over};
+ghost use Rattle.wasm_c_items.specs.Symbols.{linking_version_at, plain_symbol};
+ghost use Rattle.wasm_c_items.specs.Numbers.{plain_number};
 ghost use Rattle.wasm_custom.specs.Linking.{symbol_at};
 
-use wasm_plain::{
+use wasm_c_items::{
     Counted, LinkingVersions, PlainNumber, PlainSymbol, StoredItems, Symbols, read_at, store_items,
 };
 

@@ -1,11 +1,13 @@
 // Features that a module uses.
 ghost use Rattle.std.specs.Prelude.{◌≡◌};
 ghost use Rattle.wasm_custom.specs.TargetFeatures.{target_feature_at};
-ghost use Rattle.wasm_plain.specs.Cursors.{StoresItems, next_by};
-ghost use Rattle.wasm_plain.specs.Readable.{item_over};
-ghost use Rattle.wasm_plain.specs.TargetFeatures.{plain_target_feature};
+ghost use Rattle.wasm_c_items.specs.Cursors.{StoresItems, next_by};
+ghost use Rattle.wasm_c_items.specs.Readable.{item_over};
+ghost use Rattle.wasm_c_items.specs.TargetFeatures.{plain_target_feature};
 
-use wasm_plain::{Counted, PlainTargetFeature, StoredItems, TargetFeatures, read_at, store_items};
+use wasm_c_items::{
+    Counted, PlainTargetFeature, StoredItems, TargetFeatures, read_at, store_items,
+};
 
 /// Reads a feature of a `target_features` section: a byte that says how the module uses it, and its name.
 ///

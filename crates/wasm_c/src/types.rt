@@ -1,10 +1,10 @@
 // Types, without their lists.
 ghost use Rattle.std.specs.Prelude.{◌≡◌};
-ghost use Rattle.wasm_plain.specs.Readable.{item_over};
-ghost use Rattle.wasm_plain.specs.TypeHeads.{plain_subtype, plain_type_group};
+ghost use Rattle.wasm_c_items.specs.Readable.{item_over};
+ghost use Rattle.wasm_c_items.specs.TypeHeads.{plain_subtype, plain_type_group};
 ghost use Rattle.wasm_items.specs.TypeHeads.{group_head_at, subtype_head_at};
 
-use wasm_plain::{PlainSubtype, PlainTypeGroup, Subtypes, TypeGroups, read_at};
+use wasm_c_items::{PlainSubtype, PlainTypeGroup, Subtypes, TypeGroups, read_at};
 
 /// Reads the head of a recursive group of types. As many subtypes as `count` says follow; `pulleynavy_read_subtype`
 /// reads each.

@@ -1,12 +1,12 @@
 // Types of values and fields.
 ghost use Rattle.std.specs.Prelude.{◌≡◌};
-ghost use Rattle.wasm_plain.specs.Cursors.{StoresItems, next_by};
-ghost use Rattle.wasm_plain.specs.Readable.{item_over};
-ghost use Rattle.wasm_plain.specs.Values.{plain_field, plain_heap_type, plain_reference_type, plain_value};
+ghost use Rattle.wasm_c_items.specs.Cursors.{StoresItems, next_by};
+ghost use Rattle.wasm_c_items.specs.Readable.{item_over};
+ghost use Rattle.wasm_c_items.specs.Values.{plain_field, plain_heap_type, plain_reference_type, plain_value};
 ghost use Rattle.wasm_items.specs.RecGroups.{field_type_at};
 ghost use Rattle.wasm_items.specs.Values.{heap_type_at, ref_type_at, val_type_at};
 
-use wasm_plain::{
+use wasm_c_items::{
     Counted, FieldTypes, HeapTypes, PlainField, PlainValue, ReferenceTypes, StoredItems,
     ValueTypes, read_at, store_items,
 };

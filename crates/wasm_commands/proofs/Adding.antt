@@ -3,8 +3,8 @@ use Rattle.std.proofs.Common.{◌≡◌, ◌∙◌, ◌+◌, ◌<◌, ℕ, Bool,
 use Rattle.std.proofs.lemmas.List.{map-append, map_more, take-map}
 use Rattle.wasm_console.specs.Devices.{IsUntouched}
 use Rattle.wasm_commands.proofs.Editing.{untouched_before}
-use Rattle.wasm_text.specs.declared.devices.sink.Sink.{Ghosts as SinkOf}
-use Rattle.wasm_text.specs.declared.devices.source.Source.{Ghosts as SourceOf}
+use Rattle.wasm_io.specs.declared.devices.sink.Sink.{Ghosts as SinkOf}
+use Rattle.wasm_io.specs.declared.devices.source.Source.{Ghosts as SourceOf}
 use Rattle.wasm_commands.specs.RewriteCommands.{CannotLoad, EachInTurn, IsLoaded, parts_of}
 use Rattle.wasm_commands.specs.Rewrites.{CannotHold}
 use Rattle.wasm_commands.specs.declared.add.Addition.{Addition}

@@ -4,10 +4,10 @@ use Rattle.wasm_commands.specs.Checks.{ReadsOn}
 use Rattle.wasm_dumper.specs.Checks.{FindsIn}
 use Rattle.wasm_dumper.specs.declared.events.Only.TheVariants.{All}
 use Rattle.wasm_streams.specs.declared.turns.Ended.{Ended}
-use Rattle.wasm_text.specs.Calls.{Change}
-use Rattle.wasm_tree.specs.Found.{FindsNone, Noted}
-use Rattle.wasm_tree.specs.Tree.{Writing}
-use Rattle.wasm_tree.proofs.ForCallers.{noted_nothing}
+use Rattle.wasm_io.specs.Calls.{Change}
+use Rattle.wasm_output.specs.Found.{FindsNone, Noted}
+use Rattle.wasm_output.specs.Tree.{Writing}
+use Rattle.wasm_output.proofs.ForCallers.{noted_nothing}
 
 -- a tree that was read on, and then written out
 pub reads_on : (input : Change) (old mid new : Noted) (how : Ended) (w : Writing) → FindsIn (All ∷ []) input how (Some old) w (Some mid)

@@ -5,7 +5,7 @@ use Rattle.std.proofs.Common.{append_assoc, append-nil, take-append-drop, length
 use Rattle.std.proofs.lemmas.Bool.{false_from_ne_true}
 use Rattle.std.proofs.lemmas.List.{take_at, take_more}
 use Rattle.std.specs.Io.KnownBytes.{Appends, Keeps, WriteAppends}
-use Rattle.wasm_text.specs.declared.devices.Failed.{Failed}
+use Rattle.wasm_io.specs.declared.devices.Failed.{Failed}
 use Rattle.std.proofs.KnownBytes.{Appends-kept}
 use Rattle.wasm_commands.specs.Colors.{GainsByte, IsColored, IsSequence, given_by, plain, where_after, where_after_byte}
 use Rattle.wasm_commands.specs.Colors.{without_colors, without_from}

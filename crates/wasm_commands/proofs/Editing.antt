@@ -12,11 +12,11 @@ use Rattle.wasm_edits.specs.Edits.{CanBeMade, edited_bytes, new_bytes}
 use Rattle.wasm_edits.specs.declared.edits.Edit.{Edit}
 use Rattle.wasm_edits.specs.Stripped.{EndsWithFault, RefusesToStrip}
 use Rattle.wasm_grammar.specs.Accepted.{IsAccepted}
-use Rattle.wasm_text.specs.Calls.{Device}
-use Rattle.wasm_text.specs.declared.devices.ListError.{ListError}
-use Rattle.wasm_text.specs.declared.devices.ListError.TheVariants.{Input, Output, Memory}
-use Rattle.wasm_text.specs.declared.devices.sink.Sink.{Ghosts as SinkOf}
-use Rattle.wasm_text.specs.declared.devices.source.Source.{Ghosts as SourceOf}
+use Rattle.wasm_io.specs.Calls.{Device}
+use Rattle.wasm_io.specs.declared.devices.ListError.{ListError}
+use Rattle.wasm_io.specs.declared.devices.ListError.TheVariants.{Input, Output, Memory}
+use Rattle.wasm_io.specs.declared.devices.sink.Sink.{Ghosts as SinkOf}
+use Rattle.wasm_io.specs.declared.devices.source.Source.{Ghosts as SourceOf}
 use Rattle.wasm_streams.specs.declared.turns.Ended.{Ended}
 use Rattle.wasm_streams.specs.declared.turns.Ended.TheVariants.{End, Fault}
 use Rattle.wasm_console.specs.Devices.{IsUntouched}

@@ -10,7 +10,7 @@ use Rattle.wasm_commands.specs.Options.{verb_named}
 use Rattle.wasm_commands.specs.Refusals.{Refuses, RefusesOrStops, refused_by, refused_command, refused_other, refused_topics}
 use Rattle.wasm_commands.specs.Refusals.{refused_topic, unknown_text}
 use Rattle.wasm_commands.specs.declared.options.Verb.{Verb}
-use Rattle.wasm_text.specs.Calls.{Device}
+use Rattle.wasm_io.specs.Calls.{Device}
 
 module _ (words : List (String Global)) (word : String Global) (text : List ℕ) (is : word ≡ get_or words 0 word)
     (some : 1 ≤ length words) (text_is : text ≡ string_bytes word) where

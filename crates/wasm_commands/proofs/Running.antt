@@ -3,15 +3,15 @@ use Rattle.std.proofs.Common.{◌≡◌, ◌∷◌, ◌++◌, List, ℕ, true, f
 use Rattle.std.proofs.Common.{Result, Ok, Err, OnErr, ap, subst, subst₂, sym}
 use Rattle.std.specs.Io.KnownBytes.{Appends, Keeps}
 use Rattle.std.proofs.KnownBytes.{Appends-kept}
-use Rattle.wasm_text.specs.Calls.{from_to}
+use Rattle.wasm_io.specs.Calls.{from_to}
 use Rattle.wasm_streams.specs.declared.turns.Ended.{Ended}
-use Rattle.wasm_text.specs.declared.devices.ListError.{ListError}
-use Rattle.wasm_text.specs.declared.devices.ListError.TheVariants.{Input, Output, Memory}
-use Rattle.wasm_tree.specs.Numbers.{Number}
+use Rattle.wasm_io.specs.declared.devices.ListError.{ListError}
+use Rattle.wasm_io.specs.declared.devices.ListError.TheVariants.{Input, Output, Memory}
+use Rattle.wasm_output.specs.Numbers.{Number}
 use Rattle.wasm_dumper.specs.Dump.{WritesWhole, WritesSome, Writes, Dumps}
 use Rattle.wasm_dumper.specs.declared.events.Only.{Only}
-use Rattle.wasm_tree.specs.declared.tree.Style.{Style}
-use Rattle.wasm_text.specs.declared.devices.Failed.{Failed}
+use Rattle.wasm_output.specs.declared.tree.Style.{Style}
+use Rattle.wasm_io.specs.declared.devices.Failed.{Failed}
 use Rattle.wasm_commands.specs.Colors.{marked, seen, without_colors}
 
 -- what was written to one device is seen on another

@@ -20,9 +20,9 @@ use Rattle.wasm_commands.specs.RewriteCommands.{SetsIn, SetsSection}
 use Rattle.wasm_commands.specs.Systems.{IfAllocated}
 use Rattle.wasm_commands.specs.declared.around.Around.{Around}
 use Rattle.wasm_commands.specs.declared.system.System.{Ghosts as SystemOf}
-use Rattle.wasm_text.specs.Calls.{Device}
-use Rattle.wasm_text.specs.declared.devices.sink.Sink.{Ghosts as SinkOf}
-use Rattle.wasm_text.specs.declared.devices.source.Source.{Ghosts as SourceOf}
+use Rattle.wasm_io.specs.Calls.{Device}
+use Rattle.wasm_io.specs.declared.devices.sink.Sink.{Ghosts as SinkOf}
+use Rattle.wasm_io.specs.declared.devices.source.Source.{Ghosts as SourceOf}
 
 -- what is done unless an allocation failed
 pub if_allocated : {does other : ℕ → Type 0} → ((status : ℕ) → does status → other status) → (output errors : Device)

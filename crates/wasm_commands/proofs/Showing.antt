@@ -10,7 +10,7 @@ use Rattle.wasm_commands.specs.Systems.{Files, InTurn, RunsIfMemory}
 use Rattle.wasm_commands.specs.declared.dump.Plan.{Plan}
 use Rattle.wasm_commands.specs.declared.dump.format.Format.{Format}
 use Rattle.wasm_commands.specs.declared.options.Verb.{Verb}
-use Rattle.wasm_text.specs.Calls.{Device}
+use Rattle.wasm_io.specs.Calls.{Device}
 
 -- files that are shown in the format that is asked for
 pub shows_asked : (files : Files) (shows : Bool → Type 0) (verb : Verb) (reads : List Read) (is_terminal : Bool) (format : Format)

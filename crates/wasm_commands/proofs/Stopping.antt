@@ -8,7 +8,7 @@ use Rattle.wasm_commands.specs.declared.options.Verb.{Verb}
 use Rattle.wasm_commands.specs.declared.options.Verb.TheVariants as verb
 use Rattle.wasm_commands.specs.Systems.{Platform}
 use Rattle.wasm_console.specs.Devices.{IsUntouched}
-use Rattle.wasm_text.specs.Calls.{Device}
+use Rattle.wasm_io.specs.Calls.{Device}
 
 -- nothing was done since an allocation failed
 module _ (p : Platform) (output : Device) (forwarded : Bool) (errors : Device) (refused : AllocError) (left : IsUntouched output)

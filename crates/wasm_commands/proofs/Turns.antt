@@ -3,7 +3,7 @@ use Rattle.std.proofs.Common.{◌≡◌, ◌∙◌, ℕ, ◌+◌, ◌<◌, List,
 use Rattle.std.proofs.Common.{take, length, get_or}
 use Rattle.std.proofs.lemmas.List.{map-append, take_more}
 use Rattle.wasm_commands.specs.Systems.{InTurn}
-use Rattle.wasm_text.specs.Calls.{Device}
+use Rattle.wasm_io.specs.Calls.{Device}
 
 abbrev device : (a b : Option (List ℕ)) (f g : Bool) → Device
 device a b f g = record { before = a; after = b; had_failed = f; has_failed = g }

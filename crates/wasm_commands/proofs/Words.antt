@@ -6,7 +6,7 @@ use Rattle.wasm_commands.specs.Commands.{RunsVerb, RunsWords}
 use Rattle.wasm_commands.specs.Options.{verb_named}
 use Rattle.wasm_commands.specs.Systems.{Platform}
 use Rattle.wasm_commands.specs.declared.options.Verb.{Verb}
-use Rattle.wasm_text.specs.Calls.{Device}
+use Rattle.wasm_io.specs.Calls.{Device}
 
 -- what the first word says is done
 module _ (p : Platform) (words : List (String Global)) (word : String Global) (text : List ℕ) (is : word ≡ get_or words 0 word)

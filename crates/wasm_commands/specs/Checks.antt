@@ -12,10 +12,10 @@ use Rattle.wasm_console.specs.Devices.{IsUntouched}
 use Rattle.wasm_dumper.specs.Checks.{NotedOf}
 use Rattle.wasm_dumper.specs.declared.events.Only.TheVariants.{All}
 use Rattle.wasm_streams.specs.declared.turns.Ended.{Ended}
-use Rattle.wasm_text.specs.Calls.{Change, Device, bytes_of}
-use Rattle.wasm_text.specs.declared.devices.ListError.{ListError}
-use Rattle.wasm_tree.specs.Found.{HasNoted, Noted}
-use Rattle.wasm_tree.specs.Notes.{Note, any_fault, lines_of, outside}
+use Rattle.wasm_io.specs.Calls.{Change, Device, bytes_of}
+use Rattle.wasm_io.specs.declared.devices.ListError.{ListError}
+use Rattle.wasm_output.specs.Found.{HasNoted, Noted}
+use Rattle.wasm_output.specs.Notes.{Note, any_fault, lines_of, outside}
 
 -- what comes before each fault of a file
 abbrev pub prefix_text : (name : List ℕ) → List ℕ

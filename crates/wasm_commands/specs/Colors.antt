@@ -2,7 +2,7 @@
 -- (ECMA-48, Select Graphic Rendition). An ESC of the text itself is followed by a `\`.
 use Rattle.std.specs.Prelude.{◌≡◌, ℕ, Bool, true, false, List, [], ◌∷◌, ◌++◌, take, nat_eq, Option, option_map}
 use Rattle.std.specs.Prelude.{if◌then◌else◌}
-use Rattle.wasm_text.specs.Calls.{Device}
+use Rattle.wasm_io.specs.Calls.{Device}
 use Rattle.wasm_commands.specs.declared.dump.plain.Where.{Where}
 use Rattle.wasm_commands.specs.declared.dump.plain.Where.TheVariants.{Outside, Escaped, Inside}
 

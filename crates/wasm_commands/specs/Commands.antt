@@ -22,9 +22,9 @@ use Rattle.wasm_console.specs.Arguments.{IsGiven}
 use Rattle.wasm_console.specs.declared.arguments.Given.{Given}
 use Rattle.wasm_console.specs.declared.arguments.Given.TheVariants.{Words, NotUtf8, Nothing}
 use Rattle.wasm_console.specs.Devices.{IsUntouched}
-use Rattle.wasm_text.specs.Calls.{Device}
-use Rattle.wasm_text.specs.Messages.{Says}
-use Rattle.wasm_text.specs.declared.devices.ListError.TheVariants.{Output}
+use Rattle.wasm_io.specs.Calls.{Device}
+use Rattle.wasm_io.specs.Messages.{Says}
+use Rattle.wasm_io.specs.declared.devices.ListError.TheVariants.{Output}
 
 -- what is said of `--output` without `--set`
 abbrev pub set_is_missing : List ℕ

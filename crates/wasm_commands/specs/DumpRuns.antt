@@ -1,9 +1,9 @@
 -- What a dump of an input does.
 use Rattle.std.specs.Prelude.{◌≡◌, ◌⊎◌, Bool, true, Result, Ok, Err}
-use Rattle.wasm_text.specs.Calls.{Device, bytes_of, input_failed, output_failed}
+use Rattle.wasm_io.specs.Calls.{Device, bytes_of, input_failed, output_failed}
 use Rattle.wasm_streams.specs.declared.turns.Ended.{Ended}
-use Rattle.wasm_text.specs.declared.devices.ListError.{ListError}
-use Rattle.wasm_text.specs.declared.devices.ListError.TheVariants.{Output}
+use Rattle.wasm_io.specs.declared.devices.ListError.{ListError}
+use Rattle.wasm_io.specs.declared.devices.ListError.TheVariants.{Output}
 use Rattle.wasm_dumper.specs.Dump.{Dumps}
 use Rattle.wasm_dumper.specs.declared.events.Shown.{Shown}
 use Rattle.wasm_commands.specs.Formats.{style_of}

@@ -1,7 +1,7 @@
 -- A file that is read once to be checked, and again to be written.
 use Rattle.std.specs.Prelude.{◌≡◌, false, List, [], None, Result, Ok, Err}
-use Rattle.wasm_text.specs.Calls.{Device}
-use Rattle.wasm_text.specs.declared.devices.ListError.{ListError}
+use Rattle.wasm_io.specs.Calls.{Device}
+use Rattle.wasm_io.specs.declared.devices.ListError.{ListError}
 use Rattle.wasm_edits.specs.EditStream.{EditsSource}
 use Rattle.wasm_edits.specs.declared.edits.Edit.{Edit}
 use Rattle.wasm_streams.specs.declared.turns.Ended.{Ended}

@@ -1,10 +1,10 @@
 -- The formats of dumps.
 use Rattle.std.specs.Prelude.{ℕ, Bool, true, false, ◌&&◌, ◌++◌, not, List, codes, bytes_eq, Option, Some, None}
 use Rattle.std.specs.Prelude.{Result, Ok, Err, if◌then◌else◌}
-use Rattle.wasm_text.specs.declared.digits.Base.{Base}
-use Rattle.wasm_text.specs.declared.digits.Base.TheVariants.{Decimal, Hexadecimal}
-use Rattle.wasm_tree.specs.declared.tree.Style.{Style}
-use Rattle.wasm_tree.specs.declared.tree.Style.TheVariants.{Lines, Objects}
+use Rattle.wasm_io.specs.declared.digits.Base.{Base}
+use Rattle.wasm_io.specs.declared.digits.Base.TheVariants.{Decimal, Hexadecimal}
+use Rattle.wasm_output.specs.declared.tree.Style.{Style}
+use Rattle.wasm_output.specs.declared.tree.Style.TheVariants.{Lines, Objects}
 use Rattle.wasm_commands.specs.ArgumentLists.{Read, has_option, last_value}
 use Rattle.wasm_commands.specs.Messages.{command_text, complaint_text}
 use Rattle.wasm_commands.specs.declared.dump.format.Format.{Format}

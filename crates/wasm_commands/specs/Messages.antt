@@ -5,12 +5,12 @@ use Rattle.std.specs.declared.io.ErrorKind.TheVariants.{Other}
 use Rattle.wasm_base.specs.FaultAt.{FaultAt, fault_at}
 use Rattle.wasm_base.specs.Message.{message_of, number_text}
 use Rattle.wasm_base.specs.declared.error.Error.{Error}
-use Rattle.wasm_text.specs.Calls.{Device}
-use Rattle.wasm_text.specs.Offsets.{offset_text}
-use Rattle.wasm_text.specs.declared.digits.Base.TheVariants.{Hexadecimal}
-use Rattle.wasm_text.specs.Messages.{Says}
-use Rattle.wasm_text.specs.declared.devices.ListError.{ListError}
-use Rattle.wasm_text.specs.declared.devices.ListError.TheVariants.{Input, Output, Memory}
+use Rattle.wasm_io.specs.Calls.{Device}
+use Rattle.wasm_io.specs.Offsets.{offset_text}
+use Rattle.wasm_io.specs.declared.digits.Base.TheVariants.{Hexadecimal}
+use Rattle.wasm_io.specs.Messages.{Says}
+use Rattle.wasm_io.specs.declared.devices.ListError.{ListError}
+use Rattle.wasm_io.specs.declared.devices.ListError.TheVariants.{Input, Output, Memory}
 use Rattle.wasm_streams.specs.declared.turns.Ended.{Ended}
 use Rattle.wasm_console.specs.Devices.{IsUntouched}
 use Rattle.wasm_commands.specs.Reasons.{reason_of, reason_of_kind}

@@ -8,8 +8,8 @@ use Rattle.wasm_commands.specs.Messages.{about_word, no_command_text, unknown_co
 use Rattle.wasm_commands.specs.Options.{verb_named}
 use Rattle.wasm_commands.specs.declared.options.Verb.{Verb}
 use Rattle.wasm_console.specs.Devices.{IsUntouched}
-use Rattle.wasm_text.specs.Calls.{Device}
-use Rattle.wasm_text.specs.Messages.{Says}
+use Rattle.wasm_io.specs.Calls.{Device}
+use Rattle.wasm_io.specs.Messages.{Says}
 
 -- what is said of the arguments of a command, if one is wrong
 abbrev pub wrong_text : Verb → Wrong → List ℕ

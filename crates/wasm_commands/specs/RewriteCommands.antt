@@ -11,10 +11,10 @@ use Rattle.std.specs.declared.alloc.AllocError.{AllocError}
 use Rattle.wasm_base.specs.Window.{place}
 use Rattle.wasm_base.specs.declared.error.Error.{Error}
 use Rattle.wasm_custom.specs.Custom.{Custom}
-use Rattle.wasm_text.specs.Calls.{Device}
-use Rattle.wasm_text.specs.Messages.{Says}
-use Rattle.wasm_text.specs.declared.devices.sink.Sink.{Ghosts as SinkOf}
-use Rattle.wasm_text.specs.declared.devices.source.Source.{Ghosts as SourceOf}
+use Rattle.wasm_io.specs.Calls.{Device}
+use Rattle.wasm_io.specs.Messages.{Says}
+use Rattle.wasm_io.specs.declared.devices.sink.Sink.{Ghosts as SinkOf}
+use Rattle.wasm_io.specs.declared.devices.source.Source.{Ghosts as SourceOf}
 use Rattle.wasm_edits.specs.Edited.{IsEdited}
 use Rattle.wasm_edits.specs.Edits.{CanBeMade}
 use Rattle.wasm_edits.specs.Encoded.{Fits}
@@ -23,7 +23,7 @@ use Rattle.wasm_edits.specs.declared.edits.Edit.{Edit}
 use Rattle.wasm_edits.specs.declared.edits.Edit.TheVariants as edit
 use Rattle.wasm_edits.specs.declared.encoding.NewSection.{NewSection}
 use Rattle.wasm_streams.specs.declared.turns.Ended.{Ended}
-use Rattle.wasm_text.specs.declared.devices.ListError.{ListError}
+use Rattle.wasm_io.specs.declared.devices.ListError.{ListError}
 use Rattle.wasm_edits.specs.declared.fates.Keep.{Keep}
 use Rattle.wasm_console.specs.Devices.{IsUntouched}
 use Rattle.wasm_commands.specs.ArgumentLists.{Read, has_option, is_equals, last_value, operands_in, values_in}

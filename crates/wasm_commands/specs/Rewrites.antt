@@ -6,11 +6,11 @@ use Rattle.std.specs.Io.KnownBytes.{Appends, Consumes, IsAtEnd, Keeps}
 use Rattle.std.specs.declared.alloc.Global.{Global}
 use Rattle.wasm_grammar.specs.Accepted.{IsAccepted}
 use Rattle.wasm_grammar.specs.Reading.{Stream}
-use Rattle.wasm_text.specs.Calls.{Change, Device, bytes_of, device_of, output_failed}
-use Rattle.wasm_text.specs.declared.devices.ListError.{ListError}
-use Rattle.wasm_text.specs.declared.devices.ListError.TheVariants.{Input, Output, Memory}
-use Rattle.wasm_text.specs.declared.devices.sink.Sink.{Ghosts as SinkOf}
-use Rattle.wasm_text.specs.declared.devices.source.Source.{Ghosts as SourceOf}
+use Rattle.wasm_io.specs.Calls.{Change, Device, bytes_of, device_of, output_failed}
+use Rattle.wasm_io.specs.declared.devices.ListError.{ListError}
+use Rattle.wasm_io.specs.declared.devices.ListError.TheVariants.{Input, Output, Memory}
+use Rattle.wasm_io.specs.declared.devices.sink.Sink.{Ghosts as SinkOf}
+use Rattle.wasm_io.specs.declared.devices.source.Source.{Ghosts as SourceOf}
 use Rattle.wasm_streams.specs.declared.turns.Ended.{Ended}
 use Rattle.wasm_streams.specs.declared.turns.Ended.TheVariants.{End, Fault}
 use Rattle.wasm_edits.specs.EditStream.{EditsSource}

@@ -25,10 +25,10 @@ use Rattle.wasm_console.specs.Endings.{status_for}
 use Rattle.wasm_dumper.specs.declared.events.Only.{Only}
 use Rattle.wasm_dumper.specs.declared.events.Only.TheVariants.{All, Parts}
 use Rattle.wasm_streams.specs.declared.turns.Ended.{Ended}
-use Rattle.wasm_text.specs.Calls.{Device, output_failed}
-use Rattle.wasm_text.specs.Messages.{Says}
-use Rattle.wasm_text.specs.declared.devices.ListError.{ListError}
-use Rattle.wasm_text.specs.declared.devices.ListError.TheVariants.{Output}
+use Rattle.wasm_io.specs.Calls.{Device, output_failed}
+use Rattle.wasm_io.specs.Messages.{Says}
+use Rattle.wasm_io.specs.declared.devices.ListError.{ListError}
+use Rattle.wasm_io.specs.declared.devices.ListError.TheVariants.{Output}
 
 -- ---- one file
 

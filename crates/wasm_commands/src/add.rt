@@ -5,7 +5,7 @@ ghost use Rattle.wasm_commands.specs.Parsing.{reads_of, texts};
 ghost use Rattle.wasm_commands.specs.declared.options.Flag.TheVariants.{Replace};
 ghost use Rattle.wasm_commands.specs.RewriteCommands.{Adds, AddsAll, AddsBy, AddsHeld, AddsLoaded, AddsRead, AddsSearched, AddsTo, AddsWords, AreAdditions, AreOperands, EachInTurn, IfAdded, IsAdded, IsAddedBy, IsAddition, LoadsAll, is_asked_again, is_input, Searches, WritesAdded, loaded_parts, no_addition, parts_of};
 ghost use Rattle.wasm_commands.specs.Systems.{IfAllocated};
-ghost use Rattle.wasm_text.specs.Calls.{device_of, writer_device};
+ghost use Rattle.wasm_io.specs.Calls.{device_of, writer_device};
 
 use crate::arguments::Arguments;
 use crate::extract::{Wanted, find};
@@ -18,9 +18,11 @@ use std::cell::Cell;
 use std::io::Write;
 use wasm_console::PIECE;
 use wasm_dumper::{Only, Shown, dump};
-use wasm_feed::{Edit, Ended, ListError, NewSection, Sink, Source, WriteSink, all_fit};
+use wasm_edits::{Edit, NewSection, all_fit};
+use wasm_io::{ListError, Sink, Source, WriteSink};
+use wasm_output::Faults;
 use wasm_parser::Result as ParserResult;
-use wasm_tree::Faults;
+use wasm_streams::Ended;
 
 // A section to add: its name, and the file with its data.
 #[derive(Drop)]

@@ -3,10 +3,9 @@ ghost use Rattle.std.specs.Prelude.{◌≡◌, ◌<◌, drop, length, take, true
 ghost use Rattle.wasm_commands.specs.Finding.{has_name};
 ghost use Rattle.wasm_commands.specs.FirstNamed.{FindsFirst, GoesOn, IsPartOf, TakesPart, first_found};
 
-use wasm_feed::Cursor;
 use wasm_frames::{Frame, FrameKind, StoredParser};
 use wasm_parser::Result;
-use wasm_streams::{FrameStep, next_frame};
+use wasm_streams::{Cursor, FrameStep, next_frame};
 
 /// The bytes before and after a part of a stream.
 #[derive(Clone, Copy)]

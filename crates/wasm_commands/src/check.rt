@@ -1,12 +1,12 @@
 // The command `check`: reads every item of files, and reports the malformed ones.
 ghost use Rattle.std.specs.Prelude.{◌≡◌, ◌<◌, length, true, IfOk, Ok};
-ghost use Rattle.wasm_tree.specs.Written.{found_by};
+ghost use Rattle.wasm_output.specs.Written.{found_by};
 ghost use Rattle.std.specs.Io.KnownBytes.{Keeps};
 ghost use Rattle.std.specs.String.{string_bytes};
 ghost use Rattle.wasm_commands.specs.Checks.{ChecksFile, ChecksFiles, ChecksInput, ChecksOpened, EndsCheck, ReadsInput, prefix_text};
 ghost use Rattle.wasm_commands.specs.Parsing.{reads_of, texts};
 ghost use Rattle.wasm_commands.specs.Systems.{FilesOf, ForwardsIfMemory, InTurn, IsForwarded, UsesFile};
-ghost use Rattle.wasm_text.specs.Calls.{device_of, from_to, writer_device};
+ghost use Rattle.wasm_io.specs.Calls.{device_of, from_to, writer_device};
 
 use crate::arguments::Arguments;
 use crate::files::or_input;
@@ -17,8 +17,9 @@ use std::alloc::{AllocError, Global};
 use std::io::Write;
 use wasm_console::PIECE;
 use wasm_dumper::{Only, Shown, dump};
-use wasm_feed::{Ended, ListError, Sink, Source, WriteSink};
-use wasm_tree::{Faults, Tree};
+use wasm_io::{ListError, Sink, Source, WriteSink};
+use wasm_output::{Faults, Tree};
+use wasm_streams::Ended;
 
 // Returns what comes before each fault of a file: its name and a colon.
 fn prefix_of(alloc: Global, name: &str) -> Result<String, AllocError>

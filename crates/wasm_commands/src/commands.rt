@@ -9,7 +9,7 @@ ghost use Rattle.wasm_commands.specs.Parsing.{reads_of};
 ghost use Rattle.wasm_commands.specs.Refusals.{Refuses, RefusesIfRead, RefusesOrStops, refused_by, refused_other, refused_topics, unknown_text, wrong_if_any};
 ghost use Rattle.wasm_commands.specs.Messages.{complaint_text};
 ghost use Rattle.wasm_commands.specs.Systems.{IsForwarded, platform};
-ghost use Rattle.wasm_text.specs.Calls.{device_of, writer_device};
+ghost use Rattle.wasm_io.specs.Calls.{device_of, writer_device};
 
 use crate::add::add;
 use crate::arguments::{Arguments, is_option, parse};
@@ -30,7 +30,7 @@ use std::env::{self, Args};
 use std::io::{self, Write};
 use std::process::ExitCode;
 use wasm_console::{Given, words_given};
-use wasm_feed::{Failed, ListError, Sink, WriteSink, write_all};
+use wasm_io::{Failed, ListError, Sink, WriteSink, write_all};
 
 // Writes a text and flushes the output.
 fn write_out<W: Write>(text: &[u8], output: &mut WriteSink<W>) -> Result<(), Failed>

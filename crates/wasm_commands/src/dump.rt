@@ -5,7 +5,7 @@ ghost use Rattle.wasm_commands.specs.EditsTwice.{dropped};
 ghost use Rattle.wasm_commands.specs.Parsing.{reads_of, texts};
 ghost use Rattle.wasm_commands.specs.Shows.{ChooseFor, Dumps, DumpsAgain, DumpsFile, DumpsIfMemory, DumpsNamed, DumpsTwice, IsRequest, MayWarn, Shows, ShowsAfter, ShowsFile, ShowsFiles, ShowsIn, ShowsTitled, ShowsUnderName, Warns, WarnsAfter, words_asked};
 ghost use Rattle.wasm_commands.specs.Systems.{FilesOf, ForwardsIfMemory, InTurn, IsForwarded, RunsIfMemory, UsesFile};
-ghost use Rattle.wasm_text.specs.Calls.{device_of, writer_device};
+ghost use Rattle.wasm_io.specs.Calls.{device_of, writer_device};
 
 mod choices;
 mod colored;
@@ -32,8 +32,8 @@ use std::alloc::{AllocError, Global};
 use std::cell::Cell;
 use std::io::Write;
 use wasm_dumper::{Only, Shown, collect_names};
-use wasm_feed::{Sink, Source, WriteSink};
-use wasm_tree::ItemNames;
+use wasm_io::{Sink, Source, WriteSink};
+use wasm_output::ItemNames;
 
 // What a command shows of each file.
 #[derive(Clone, Copy)]

@@ -6,8 +6,8 @@ ghost use Rattle.wasm_commands.specs.RewriteCommands.{EndsExtract, Extracts, Ext
 ghost use Rattle.wasm_commands.specs.Rewrites.{EndsBytes, ForwardsBytes, WritesBytes, WritesBytesFile, WritesBytesOut, WritesBytesTo, target_in};
 ghost use Rattle.wasm_commands.specs.declared.options.Verb.TheVariants.{Extract};
 ghost use Rattle.wasm_console.specs.Messages.{joined};
-ghost use Rattle.wasm_text.specs.Calls.{device_of, writer_device};
-ghost use Rattle.wasm_text.specs.Messages.{Says};
+ghost use Rattle.wasm_io.specs.Calls.{device_of, writer_device};
+ghost use Rattle.wasm_io.specs.Messages.{Says};
 
 use crate::arguments::Arguments;
 use crate::messages::{
@@ -19,7 +19,7 @@ use crate::system::System;
 use std::alloc::{AllocError, Global};
 use std::io::Write;
 use wasm_console::write_parts;
-use wasm_feed::{ListError, Sink, WriteSink};
+use wasm_io::{ListError, Sink, WriteSink};
 use wasm_parser::{CustomSectionReader, Parser, Payload, Result as ParserResult};
 
 /// The custom section that is looked for: its name, and how many with this name come before it.

@@ -3,11 +3,11 @@ ghost use Rattle.std.specs.Prelude.{◌≡◌, ◌<◌, length};
 ghost use Rattle.wasm_commands.specs.Parsing.{texts};
 ghost use Rattle.wasm_commands.specs.Shows.{WritesLine, heading};
 ghost use Rattle.wasm_commands.specs.Systems.{named_files};
-ghost use Rattle.wasm_text.specs.Calls.{writer_device};
+ghost use Rattle.wasm_io.specs.Calls.{writer_device};
 
 use std::io::Write;
 use wasm_console::write_parts;
-use wasm_feed::{ListError, WriteSink};
+use wasm_io::{ListError, WriteSink};
 
 /// Returns the files that operands name: standard input if there are none.
 pub(crate) fn or_input<'a>(operands: &'a [&'a str]) -> &'a [&'a str]

@@ -9,7 +9,7 @@ use std::cell::Cell;
 use std::fs;
 use std::io::IsTerminal;
 use std::path::Path;
-use wasm_feed::ReadSource;
+use wasm_io::ReadSource;
 
 /// The system, and where its devices note why they failed.
 #[derive(Drop)]

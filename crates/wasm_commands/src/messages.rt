@@ -5,16 +5,16 @@ ghost use Rattle.wasm_commands.specs.Messages.{Reports, StopsAt, command_text, c
 ghost use Rattle.wasm_commands.specs.Messages.{about_word};
 ghost use Rattle.wasm_commands.specs.Reasons.{reason_of};
 ghost use Rattle.wasm_console.specs.Endings.{status_for};
-ghost use Rattle.wasm_text.specs.Calls.{device_of};
-ghost use Rattle.wasm_text.specs.Messages.{Says};
+ghost use Rattle.wasm_io.specs.Calls.{device_of};
+ghost use Rattle.wasm_io.specs.Messages.{Says};
 
 use crate::arguments::Refusal;
 use crate::options::Verb;
 use crate::reasons::{Cause, words_if_any};
 use wasm_base::Error;
 use wasm_console::{say, status_of};
-use wasm_feed::{Ended, ListError, Sink};
-use wasm_text::{Base, write_number, write_offset, write_word};
+use wasm_io::{Base, ListError, Sink, write_number, write_offset, write_word};
+use wasm_streams::Ended;
 
 /// Why the devices of a run failed, as far as they said so.
 #[derive(Clone, Copy)]

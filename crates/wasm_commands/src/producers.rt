@@ -8,7 +8,7 @@ ghost use Rattle.wasm_commands.specs.Rewrites.{WritesBytesTo, target_in};
 ghost use Rattle.wasm_commands.specs.Systems.{IfAllocated, platform};
 ghost use Rattle.wasm_commands.specs.declared.options.Flag.TheVariants as option;
 ghost use Rattle.wasm_edits.specs.Encoded.{Fits, encoded, encoded_section};
-ghost use Rattle.wasm_text.specs.Calls.{device_of, writer_device};
+ghost use Rattle.wasm_io.specs.Calls.{device_of, writer_device};
 
 use crate::arguments::Arguments;
 use crate::around::{Around, find_first};
@@ -20,7 +20,8 @@ use crate::rewriting::hold;
 use crate::system::System;
 use std::alloc::{AllocError, Global};
 use std::io::Write;
-use wasm_feed::{NewSection, Sink, WriteSink, encode};
+use wasm_edits::{NewSection, encode};
+use wasm_io::{Sink, WriteSink};
 use wasm_parser::{
     CustomSectionReader, ProducersField, ProducersFieldValue, ProducersSectionReader,
     Result as ParserResult,

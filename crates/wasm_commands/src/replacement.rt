@@ -7,7 +7,7 @@ use std::io::{self, ErrorKind, Write};
 use std::os::unix::fs::{MetadataExt, OpenOptionsExt, PermissionsExt, chown};
 use std::path::Path;
 use std::process;
-use wasm_feed::{Failed, Sink};
+use wasm_io::{Failed, Sink};
 
 // How many names are tried for a temporary file.
 const ATTEMPTS: u32 = 100;

@@ -4,7 +4,7 @@ ghost use Rattle.std.specs.Io.KnownBytes.{Keeps};
 ghost use Rattle.wasm_commands.specs.Parsing.{reads_of};
 ghost use Rattle.wasm_commands.specs.Rewrites.{ChangesFile, EditsHeld, EditsOriginal, EndsFile, EndsOutput, EndsRun, EndsTarget, Finds, FlushesAtEnd, Holds, WritesFile, WritesOut, WritesTo, target_in};
 ghost use Rattle.wasm_edits.specs.Edits.{CanBeMade};
-ghost use Rattle.wasm_text.specs.Calls.{device_of, writer_device};
+ghost use Rattle.wasm_io.specs.Calls.{device_of, writer_device};
 
 mod twice;
 
@@ -17,8 +17,10 @@ use std::alloc::Global;
 use std::io::Write;
 use twice::edit_twice;
 use wasm_console::{PIECE, read_all};
-use wasm_feed::{Edit, Ended, ListError, Sink, WriteSink, edit, edit_stream, write_all};
+use wasm_edits::{Edit, edit, edit_stream};
+use wasm_io::{ListError, Sink, WriteSink, write_all};
 use wasm_parser::Fault;
+use wasm_streams::Ended;
 
 /// A stream to change: a regular file, which is opened for each reading, or what was read of another one.
 #[derive(Drop)]

@@ -5,7 +5,7 @@ use crate::reasons::Cause;
 use std::cell::Cell;
 use std::fs::File;
 use std::io::{self, Read, Stderr, Stdin, Write};
-use wasm_feed::{Failed, Sink};
+use wasm_io::{Failed, Sink};
 
 /// Standard input or a file. It is one type, so that a program contains the code that reads it only once.
 #[derive(Drop)]

@@ -4,7 +4,7 @@ ghost use Rattle.wasm_commands.specs.ArgumentLists.{values_in};
 ghost use Rattle.wasm_commands.specs.Parsing.{reads_of, texts};
 ghost use Rattle.wasm_commands.specs.RewriteCommands.{Strips, StripsFile};
 ghost use Rattle.wasm_commands.specs.declared.options.Flag.TheVariants as option;
-ghost use Rattle.wasm_text.specs.Calls.{device_of, writer_device};
+ghost use Rattle.wasm_io.specs.Calls.{device_of, writer_device};
 
 use crate::arguments::Arguments;
 use crate::messages::{Complaint, complain};
@@ -13,7 +13,8 @@ use crate::rewriting::edit_file;
 use crate::system::System;
 use std::alloc::{AllocError, Global};
 use std::io::Write;
-use wasm_feed::{Edit, Keep, Sink, WriteSink};
+use wasm_edits::{Edit, Keep};
+use wasm_io::{Sink, WriteSink};
 
 // Removes the custom sections of a file or of standard input, except those that stay. Returns the exit status.
 fn strip_file<S: System, W: Write, E: Sink>(

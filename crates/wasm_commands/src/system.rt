@@ -2,7 +2,7 @@
 use crate::messages::Causes;
 use crate::reasons::Cause;
 use std::alloc::Global;
-use wasm_feed::{Sink, Source};
+use wasm_io::{Sink, Source};
 
 /// The files that commands read and write, and why they failed.
 ///

@@ -6,7 +6,7 @@ use Rattle.std.proofs.Math.Seq.{take-append_seam, take-append-add}
 use Rattle.std.proofs.KnownBytes.{Appends-trans}
 use Rattle.std.specs.Io.KnownBytes.{Appends}
 use Rattle.wasm_console.specs.Messages.{joined}
-use Rattle.wasm_text.specs.declared.devices.Failed.{Failed}
+use Rattle.wasm_io.specs.declared.devices.Failed.{Failed}
 
 -- the start of a text is the start of it and another
 start_of : (n : ℕ) (first second : List ℕ) → take (length (take n first)) (first ++ second) ≡ take n first

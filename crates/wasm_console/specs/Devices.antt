@@ -1,6 +1,6 @@
 -- Calls that leave a device alone, and calls that follow one another.
 use Rattle.std.specs.Prelude.{◌≡◌}
-use Rattle.wasm_text.specs.Calls.{Device}
+use Rattle.wasm_io.specs.Calls.{Device}
 
 -- | a device was left alone
 -- the call left the device alone

@@ -1,13 +1,13 @@
 -- How a run of a program ends, and what it says.
 use Rattle.std.specs.Prelude.{◌≡◌, ◌⊎◌, ℕ, ◌<◌, ◌≤◌, Bool, true, List, take, Result, Ok, Err}
 use Rattle.std.specs.Io.KnownBytes.{Appends, Keeps}
-use Rattle.wasm_text.specs.Calls.{Device}
+use Rattle.wasm_io.specs.Calls.{Device}
 use Rattle.wasm_streams.specs.declared.turns.Ended.{Ended}
 use Rattle.wasm_streams.specs.declared.turns.Ended.TheVariants.{End, Fault}
-use Rattle.wasm_text.specs.declared.devices.ListError.{ListError}
-use Rattle.wasm_text.specs.declared.devices.ListError.TheVariants.{Output, Memory}
+use Rattle.wasm_io.specs.declared.devices.ListError.{ListError}
+use Rattle.wasm_io.specs.declared.devices.ListError.TheVariants.{Output, Memory}
 use Rattle.wasm_console.specs.Devices.{IsUntouched}
-use Rattle.wasm_text.specs.Messages.{Says, complaint_of}
+use Rattle.wasm_io.specs.Messages.{Says, complaint_of}
 
 -- | how a run ends: the exit status, what it prints, and what the output has forwarded; a run that refuses its
 --   arguments, or cannot begin [`Reports`, `Finishes`, `RunsUsage`, `CannotBegin`]

@@ -3,13 +3,13 @@ ghost use Rattle.std.specs.Prelude.{◌≡◌, IfOk, OnOk, OnErr, ℕ, take, tru
 ghost use Rattle.std.specs.Io.KnownBytes.{Appends};
 ghost use Rattle.wasm_console.specs.Endings.{Finishes, status_for};
 ghost use Rattle.wasm_console.specs.Messages.{joined};
-ghost use Rattle.wasm_text.specs.Calls.{device_of, writer_device};
-ghost use Rattle.wasm_text.specs.Messages.{Says};
+ghost use Rattle.wasm_io.specs.Calls.{device_of, writer_device};
+ghost use Rattle.wasm_io.specs.Messages.{Says};
 
 use std::alloc::{AllocError, Global};
 use std::io::Write;
+use wasm_io::{Failed, ListError, Sink, WriteSink, give_up, write_all};
 use wasm_streams::Ended;
-use wasm_text::{Failed, ListError, Sink, WriteSink, give_up, write_all};
 
 /// The number of bytes of the input that are read at once, at most.
 pub const PIECE: usize = 65_536;

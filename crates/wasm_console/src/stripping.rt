@@ -1,6 +1,6 @@
 // Strips an input that can be read only once.
 ghost use Rattle.wasm_edits.specs.Fates.{stays_by};
-ghost use Rattle.wasm_text.specs.Calls.{input_failed, output_failed, device_of};
+ghost use Rattle.wasm_io.specs.Calls.{input_failed, output_failed, device_of};
 ghost use Rattle.wasm_console.specs.Strips.{ReadsAll, ReadsPiece, Refuses, StripsInput, WritesStripped};
 ghost use Rattle.std.specs.Prelude.{◌≡◌, ◌<◌, length};
 
@@ -8,8 +8,8 @@ use crate::common::read_buffer;
 use std::alloc::Global;
 use wasm_base::Error;
 use wasm_edits::{Keep, strip_in_place};
+use wasm_io::{ListError, Sink, Source, complain, give_up, write_all};
 use wasm_streams::Ended;
-use wasm_text::{ListError, Sink, Source, complain, give_up, write_all};
 
 // Performs one read and appends the result to `bytes`. Returns false at the end of input.
 fn read_piece<R: Source>(

@@ -6,11 +6,11 @@ use Rattle.wasm_dumper.specs.Hiding.{DropsPart, FindsOutline}
 use Rattle.wasm_dumper.specs.declared.hidden.Skipped.{Skipped}
 use Rattle.wasm_streams.specs.Passing.{held_by}
 use Rattle.wasm_frames.specs.SkipNext.{Head}
-use Rattle.wasm_tree.specs.Found.{Finds, FindsNone, Noted}
+use Rattle.wasm_output.specs.Found.{Finds, FindsNone, Noted}
 use Rattle.wasm_dumper.proofs.Checking.{Seeking, notes_more}
 use Rattle.wasm_dumper.specs.Dumping.{Finding}
 use Rattle.wasm_streams.proofs.ForCallers.{arrived, past}
-use Rattle.wasm_tree.proofs.ForCallers.{finds_no_more, finds_same, finds_then}
+use Rattle.wasm_output.proofs.ForCallers.{finds_no_more, finds_same, finds_then}
 
 -- what was found so far is known, and the parser has skipped a part
 module _ (only : List Only) (has_bytes : Bool) (full rest : Option (List ℕ)) (cur : Cursor) (stored chunk : List ℕ)

@@ -17,10 +17,10 @@ use Rattle.wasm_parser.specs.declared.payload.Payload.{Payload}
 use Rattle.wasm_parser.specs.declared.payload.Payload.TheVariants.{End}
 use Rattle.wasm_grammar.specs.Content.{fault}
 use Rattle.wasm_grammar.specs.Reading.{Report, stream_end}
-use Rattle.wasm_text.specs.Calls.{from_to}
-use Rattle.wasm_tree.specs.Found.{Finds, FindsNone, Noted}
-use Rattle.wasm_tree.specs.Notes.{Note}
-use Rattle.wasm_tree.proofs.ForCallers.{finds_no_more, finds_nothing, finds_same, finds_then}
+use Rattle.wasm_io.specs.Calls.{from_to}
+use Rattle.wasm_output.specs.Found.{Finds, FindsNone, Noted}
+use Rattle.wasm_output.specs.Notes.{Note}
+use Rattle.wasm_output.proofs.ForCallers.{finds_no_more, finds_nothing, finds_same, finds_then}
 use Rattle.wasm_base.specs.FaultAt.{FaultAt}
 use Rattle.wasm_base.specs.Number.{unsigned_at}
 use Rattle.wasm_base.specs.Section.{Section}

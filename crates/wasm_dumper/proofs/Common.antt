@@ -29,17 +29,17 @@ pub use Rattle.wasm_grammar.specs.Reading.{Report, counted, Event, last_event, s
 pub use Rattle.wasm_items.specs.Flattened.{flattened}
 pub use Rattle.wasm_lines.specs.Listing.{line_in}
 pub use Rattle.wasm_parser.specs.ParseAnswer.{report_of}
-pub use Rattle.wasm_text.specs.Calls.{input_failed}
-pub use Rattle.wasm_text.specs.declared.devices.ListError.{ListError}
-pub use Rattle.wasm_text.specs.declared.devices.ListError.TheVariants.{Input}
-pub use Rattle.wasm_text.specs.declared.digits.Base.{Base}
-pub use Rattle.wasm_tree.proofs.ForCallers.{first_in_objects}
-pub use Rattle.wasm_tree.specs.ItemNames.{KeepsNames}
-pub use Rattle.wasm_tree.specs.Numbers.{Number, more, numbers_from, numbers_read}
-pub use Rattle.wasm_tree.specs.Tree.{Writing, IsWritten, with_numbers, AddsThese, AddsNumbers, Adds, IsOut, base_of, Origin, AddsFirst}
-pub use Rattle.wasm_tree.specs.Tree.{AddsUpTo}
-pub use Rattle.wasm_tree.specs.declared.numbers.Space.{Space}
-pub use Rattle.wasm_tree.specs.declared.numbers.Space.TheVariants.{Types}
+pub use Rattle.wasm_io.specs.Calls.{input_failed}
+pub use Rattle.wasm_io.specs.declared.devices.ListError.{ListError}
+pub use Rattle.wasm_io.specs.declared.devices.ListError.TheVariants.{Input}
+pub use Rattle.wasm_io.specs.declared.digits.Base.{Base}
+pub use Rattle.wasm_output.proofs.ForCallers.{first_in_objects}
+pub use Rattle.wasm_output.specs.ItemNames.{KeepsNames}
+pub use Rattle.wasm_output.specs.Numbers.{Number, more, numbers_from, numbers_read}
+pub use Rattle.wasm_output.specs.Tree.{Writing, IsWritten, with_numbers, AddsThese, AddsNumbers, Adds, IsOut, base_of, Origin, AddsFirst}
+pub use Rattle.wasm_output.specs.Tree.{AddsUpTo}
+pub use Rattle.wasm_output.specs.declared.numbers.Space.{Space}
+pub use Rattle.wasm_output.specs.declared.numbers.Space.TheVariants.{Types}
 pub use Rattle.wasm_dumper.specs.Chosen.{chosen_line, is_chosen, shown_line, numbered_line}
 pub use Rattle.wasm_dumper.specs.Counting.{one_number, after, after_all, no_counts, numbers_in_line, Found, import_numbers, count_of}
 pub use Rattle.wasm_dumper.specs.Counting.{item_at}

@@ -5,8 +5,8 @@ use Rattle.wasm_dumper.proofs.Common.{Section, all_items, Place, place, Error, N
 use Rattle.wasm_dumper.proofs.Common.{with_numbers, AddsThese, AddsNumbers, Space, one_number}
 use Rattle.wasm_base.specs.Section.{Items, NextItem, AtItsOffset}
 use Rattle.wasm_dumper.specs.Counting.{number_found, after_found}
-use Rattle.wasm_tree.specs.Numbers.{with_later}
-use Rattle.wasm_tree.specs.Tree.{AddsItems}
+use Rattle.wasm_output.specs.Numbers.{with_later}
+use Rattle.wasm_output.specs.Tree.{AddsItems}
 use Rattle.wasm_dumper.proofs.Numbering.{joined, no_numbers, more_none, more_more, numbers_more, begin_shown, all_are}
 
 -- how many remain of an iterator

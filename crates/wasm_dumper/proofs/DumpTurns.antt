@@ -14,10 +14,10 @@ use Rattle.wasm_dumper.specs.Dumping.{Done, Dumper, Dumping, Finding, Going, dum
 use Rattle.wasm_streams.specs.Visits.{Finishes, GivesOut, MayBegin, Met, MeetsRequest, Taken, TakesStep, since}
 use Rattle.wasm_streams.specs.declared.turns.Turn.{Turn}
 use Rattle.wasm_streams.specs.declared.turns.Turn.TheVariants as turn
-use Rattle.wasm_text.specs.Calls.{Device, bytes_of}
-use Rattle.wasm_tree.specs.Found.{Finds, FindsNone, Noted}
+use Rattle.wasm_io.specs.Calls.{Device, bytes_of}
+use Rattle.wasm_output.specs.Found.{Finds, FindsNone, Noted}
 use Rattle.wasm_streams.proofs.ForCallers.{nothing_read}
-use Rattle.wasm_tree.proofs.ForCallers.{finds_nothing}
+use Rattle.wasm_output.proofs.ForCallers.{finds_nothing}
 
 -- a part and a fault are no requests
 pub part_is_no_request : (report : Report) (bytes : List ℕ) (hint : ℕ) → Part report bytes ≡ Request hint → ⊥

@@ -24,24 +24,24 @@ use Rattle.wasm_streams.specs.declared.turns.Ended.{Ended}
 use Rattle.wasm_streams.specs.declared.turns.Turn.{Turn}
 use Rattle.wasm_grammar.specs.EventRanges.{consumed_by}
 use Rattle.wasm_grammar.specs.Reading.{Reading}
-use Rattle.wasm_text.specs.Calls.{Change, Device, bytes_of, from_to, output_failed}
-use Rattle.wasm_text.specs.Page.{WritesHead, PutsBytes}
-use Rattle.wasm_text.specs.declared.devices.ListError.TheVariants.{Output, Memory}
-use Rattle.wasm_tree.specs.Json.{IsAt}
-use Rattle.wasm_tree.specs.Tree.{IsOutlined, Part, begun, begun_numbers, IsGoingIn, IsCutShort, IsShaped, are_lines}
-use Rattle.wasm_tree.specs.declared.objects.Spot.{Spot}
-use Rattle.wasm_tree.specs.declared.tree.Style.{Style}
-use Rattle.wasm_tree.specs.declared.tree.Style.TheVariants.{Lines, Objects}
+use Rattle.wasm_io.specs.Calls.{Change, Device, bytes_of, from_to, output_failed}
+use Rattle.wasm_io.specs.Page.{WritesHead, PutsBytes}
+use Rattle.wasm_io.specs.declared.devices.ListError.TheVariants.{Output, Memory}
+use Rattle.wasm_output.specs.Json.{IsAt}
+use Rattle.wasm_output.specs.Tree.{IsOutlined, Part, begun, begun_numbers, IsGoingIn, IsCutShort, IsShaped, are_lines}
+use Rattle.wasm_output.specs.declared.objects.Spot.{Spot}
+use Rattle.wasm_output.specs.declared.tree.Style.{Style}
+use Rattle.wasm_output.specs.declared.tree.Style.TheVariants.{Lines, Objects}
 use Rattle.wasm_dumper.specs.Dumping.{Dumping, HasWritten, IsFresh, WrittenWith, outline_of}
 use Rattle.wasm_dumper.proofs.Numbering.{all_more, events_begin, events_more, end_none}
 use Rattle.wasm_streams.proofs.ForCallers.{AtEnd, IsEnding, IsEvent, all_given, begins_with, consumed, next_asks, next_ends, next_event}
 use Rattle.wasm_streams.proofs.ForCallers.{reads_on}
 use Rattle.wasm_parser.proofs.ForCallers.{end_consumes_all}
-use Rattle.wasm_tree.proofs.ForCallers.{as_going, as_short}
+use Rattle.wasm_output.proofs.ForCallers.{as_going, as_short}
 use Rattle.wasm_streams.specs.declared.turns.Turn.TheVariants as turn
 use Rattle.wasm_streams.proofs.ForCallers as progress
-use Rattle.wasm_tree.specs.Tree as Tree
-use Rattle.wasm_tree.specs.Json as json
+use Rattle.wasm_output.specs.Tree as Tree
+use Rattle.wasm_output.specs.Json as json
 
 -- a source before and after, and whether it had failed and has
 abbrev pub source : (full rest : Option (List ℕ)) (had has : Bool) → Device

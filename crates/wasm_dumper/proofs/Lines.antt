@@ -5,9 +5,9 @@ use Rattle.std.proofs.Common.{◌≤◌, IfSome, slice_get, lit≤, codes}
 use Rattle.wasm_dumper.specs.Chosen.{numbered_text, section_words, BeginAlike}
 use Rattle.wasm_grammar.specs.Ids.{names, name_of}
 use Rattle.wasm_lines.specs.Listing.{report_text}
-use Rattle.wasm_tree.specs.Numbers.{blank_numbers}
-use Rattle.wasm_tree.specs.Tree.{IsFirst}
-use Rattle.wasm_tree.proofs.ForCallers.{blank_before}
+use Rattle.wasm_output.specs.Numbers.{blank_numbers}
+use Rattle.wasm_output.specs.Tree.{IsFirst}
+use Rattle.wasm_output.proofs.ForCallers.{blank_before}
 
 -- ---- the text of a line, and what comes after it
 

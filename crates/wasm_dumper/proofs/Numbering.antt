@@ -25,8 +25,8 @@ use Rattle.wasm_frames.specs.Frame.{unread}
 use Rattle.wasm_parser.specs.declared.payload.Payload.{Payload}
 use Rattle.wasm_parser.specs.declared.payload.Payload.TheVariants.{TypeSection, ImportSection, FunctionSection, TableSection, MemorySection}
 use Rattle.wasm_parser.specs.declared.payload.Payload.TheVariants.{TagSection, GlobalSection, ElementSection, DataSection}
-use Rattle.wasm_tree.specs.Numbers.{AreShown}
-use Rattle.wasm_tree.specs.Tree.{with_line, AddsNumber, AddsAll, AddsBytes, with_bytes}
+use Rattle.wasm_output.specs.Numbers.{AreShown}
+use Rattle.wasm_output.specs.Tree.{with_line, AddsNumber, AddsAll, AddsBytes, with_bytes}
 use Rattle.wasm_dumper.proofs.Lines.{line_is_first}
 
 -- ---- numbers that are shown one after the other

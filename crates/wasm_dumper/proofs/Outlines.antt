@@ -19,10 +19,10 @@ use Rattle.wasm_frames.specs.SkipNext.{Skip, custom, report_with, skip_in}
 use Rattle.wasm_grammar.specs.Reading.{code_entry, custom_section, unknown_section}
 use Rattle.wasm_lines.specs.Listing.{skip_text}
 use Rattle.wasm_show.specs.Faults.{custom_faults, features_faults, read_faults}
-use Rattle.wasm_tree.specs.Found.{Finds, FindsNone, Noted}
-use Rattle.wasm_tree.specs.Notes.{enters, faults}
-use Rattle.wasm_tree.specs.Notes as Notes
-use Rattle.wasm_tree.proofs.ForCallers.{finds_nothing, finds_same}
+use Rattle.wasm_output.specs.Found.{Finds, FindsNone, Noted}
+use Rattle.wasm_output.specs.Notes.{enters, faults}
+use Rattle.wasm_output.specs.Notes as Notes
+use Rattle.wasm_output.proofs.ForCallers.{finds_nothing, finds_same}
 use Rattle.wasm_dumper.proofs.Numbering.{no_bytes, shows_chosen, shows_unchosen}
 use Rattle.wasm_lines.proofs.ForCallers.{skipped_text}
 

@@ -28,11 +28,11 @@ use Rattle.wasm_items.specs.RecGroups.{rec_group_at}
 use Rattle.wasm_items.specs.Tables.{table_at}
 use Rattle.wasm_items.specs.Tags.{tag_type_at}
 use Rattle.wasm_show.specs.Faults.{custom_faults, faults_among, items_faults, plainly}
-use Rattle.wasm_text.specs.Calls.{Change}
-use Rattle.wasm_text.specs.declared.devices.ListError.{ListError}
-use Rattle.wasm_tree.specs.Found.{Finds, Noted}
-use Rattle.wasm_tree.specs.Notes.{Note, Site, enters, unknown, outside, section, custom, faults}
-use Rattle.wasm_tree.specs.Tree.{Writing}
+use Rattle.wasm_io.specs.Calls.{Change}
+use Rattle.wasm_io.specs.declared.devices.ListError.{ListError}
+use Rattle.wasm_output.specs.Found.{Finds, Noted}
+use Rattle.wasm_output.specs.Notes.{Note, Site, enters, unknown, outside, section, custom, faults}
+use Rattle.wasm_output.specs.Tree.{Writing}
 
 -- the reading of an item of the section with this id
 abbrev pub reading_of : (id : ℕ) → Place → Outcome (List FaultAt)

@@ -8,13 +8,13 @@ use Rattle.wasm_grammar.specs.Ids.{name_of as section_name}
 use Rattle.wasm_grammar.specs.Sections.{section_of}
 use Rattle.wasm_frames.specs.SkipNext.{Skip, custom}
 use Rattle.wasm_lines.specs.Listing.{line_of, report_text}
-use Rattle.wasm_text.specs.declared.digits.Base.{Base}
-use Rattle.wasm_text.specs.declared.digits.Base.TheVariants.{Decimal}
-use Rattle.wasm_tree.specs.Numbers.{blank_numbers}
+use Rattle.wasm_io.specs.declared.digits.Base.{Base}
+use Rattle.wasm_io.specs.declared.digits.Base.TheVariants.{Decimal}
+use Rattle.wasm_output.specs.Numbers.{blank_numbers}
 use Rattle.wasm_dumper.specs.Counting.{numbers_in_line}
-use Rattle.wasm_tree.specs.Tree.{base_of}
+use Rattle.wasm_output.specs.Tree.{base_of}
 use Rattle.wasm_dumper.specs.declared.counts.Counts.{Counts}
-use Rattle.wasm_tree.specs.declared.tree.Style.{Style}
+use Rattle.wasm_output.specs.declared.tree.Style.{Style}
 use Rattle.wasm_dumper.specs.declared.events.CustomFields.{CustomFields}
 use Rattle.wasm_dumper.specs.declared.events.Only.{Only}
 use Rattle.wasm_dumper.specs.declared.events.Only.TheVariants.{All, Parts, Id, Name}

@@ -22,11 +22,11 @@ use Rattle.wasm_items.specs.Tables.{table_at}
 use Rattle.wasm_items.specs.Tags.{tag_type_at}
 use Rattle.wasm_items.specs.declared.imports.TypeRef.{TypeRef}
 use Rattle.wasm_items.specs.declared.imports.TypeRef.TheVariants as types
-use Rattle.wasm_text.specs.declared.devices.ListError.{ListError}
-use Rattle.wasm_tree.specs.Numbers.{Number, more, numbers_from, numbers_read, AreFrom, AreShown}
-use Rattle.wasm_tree.specs.declared.numbers.Space.{Space}
-use Rattle.wasm_tree.specs.declared.numbers.Space.TheVariants.{Types, Functions, Tables, Memories, Tags}
-use Rattle.wasm_tree.specs.declared.numbers.Space.TheVariants.{Globals, Elements, DataSegments}
+use Rattle.wasm_io.specs.declared.devices.ListError.{ListError}
+use Rattle.wasm_output.specs.Numbers.{Number, more, numbers_from, numbers_read, AreFrom, AreShown}
+use Rattle.wasm_output.specs.declared.numbers.Space.{Space}
+use Rattle.wasm_output.specs.declared.numbers.Space.TheVariants.{Types, Functions, Tables, Memories, Tags}
+use Rattle.wasm_output.specs.declared.numbers.Space.TheVariants.{Globals, Elements, DataSegments}
 
 -- no items yet
 abbrev pub no_counts : Counts

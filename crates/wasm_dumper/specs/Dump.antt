@@ -6,20 +6,20 @@ use Rattle.wasm_base.specs.Features.{all_features}
 use Rattle.wasm_grammar.specs.EventRanges.{consumed_by}
 use Rattle.wasm_grammar.specs.Reading.{Report, Event}
 use Rattle.wasm_frames.specs.Along.{ReadingBegins}
-use Rattle.wasm_text.specs.Calls.{Change, Device, bytes_of, from_to, input_failed, output_failed}
+use Rattle.wasm_io.specs.Calls.{Change, Device, bytes_of, from_to, input_failed, output_failed}
 use Rattle.wasm_streams.specs.Lists.{ListsBy}
 use Rattle.wasm_streams.specs.Turns.{text_after}
 use Rattle.wasm_streams.specs.Step.{Told, Part, Request, Stop}
 use Rattle.wasm_streams.specs.declared.turns.Ended.{Ended}
 use Rattle.wasm_streams.specs.declared.turns.Ended.TheVariants.{End}
-use Rattle.wasm_text.specs.declared.devices.ListError.{ListError}
-use Rattle.wasm_text.specs.declared.devices.ListError.TheVariants.{Input, Output, Memory}
+use Rattle.wasm_io.specs.declared.devices.ListError.{ListError}
+use Rattle.wasm_io.specs.declared.devices.ListError.TheVariants.{Input, Output, Memory}
 use Rattle.wasm_dumper.specs.Chosen.{is_chosen, chosen_line, shows_items}
-use Rattle.wasm_tree.specs.Numbers.{Number}
+use Rattle.wasm_output.specs.Numbers.{Number}
 use Rattle.wasm_dumper.specs.Counting.{after, no_counts, numbers_in_line, AreOfItems}
-use Rattle.wasm_tree.specs.Tree.{IsShaped, Writing, Origin, IsWritten, AddsNumbers, with_bytes, with_line, with_numbers}
-use Rattle.wasm_tree.specs.Tree.{starts_in}
-use Rattle.wasm_tree.specs.declared.tree.Style.{Style}
+use Rattle.wasm_output.specs.Tree.{IsShaped, Writing, Origin, IsWritten, AddsNumbers, with_bytes, with_line, with_numbers}
+use Rattle.wasm_output.specs.Tree.{starts_in}
+use Rattle.wasm_output.specs.declared.tree.Style.{Style}
 use Rattle.wasm_dumper.specs.declared.counts.Counts.{Counts}
 use Rattle.wasm_dumper.specs.declared.events.Only.{Only}
 

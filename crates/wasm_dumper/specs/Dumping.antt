@@ -12,12 +12,12 @@ use Rattle.wasm_streams.specs.Progress.{Reached}
 use Rattle.wasm_streams.specs.Visits.{Stages}
 use Rattle.wasm_streams.specs.declared.turns.Ended.{Ended}
 use Rattle.wasm_grammar.specs.Reading.{Event}
-use Rattle.wasm_text.specs.Calls.{Device, bytes_of}
-use Rattle.wasm_text.specs.declared.devices.ListError.{ListError}
-use Rattle.wasm_tree.specs.Found.{Finds, FindsNone, Noted}
-use Rattle.wasm_tree.specs.Numbers.{Number}
-use Rattle.wasm_tree.specs.Tree.{Adds, IsOut, IsWritten, Writing}
-use Rattle.wasm_tree.specs.declared.tree.Style.{Style}
+use Rattle.wasm_io.specs.Calls.{Device, bytes_of}
+use Rattle.wasm_io.specs.declared.devices.ListError.{ListError}
+use Rattle.wasm_output.specs.Found.{Finds, FindsNone, Noted}
+use Rattle.wasm_output.specs.Numbers.{Number}
+use Rattle.wasm_output.specs.Tree.{Adds, IsOut, IsWritten, Writing}
+use Rattle.wasm_output.specs.declared.tree.Style.{Style}
 
 -- a writer that has written nothing since this was taken
 abbrev pub IsFresh : Writing → (taken : Option (List ℕ)) (failed : Bool) → Type 0

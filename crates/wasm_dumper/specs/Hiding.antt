@@ -13,11 +13,11 @@ use Rattle.wasm_frames.specs.SkipNext.{Head, Skip, custom, items, body, report_w
 use Rattle.wasm_streams.specs.Passing.{PartEnds, SkipsHere}
 use Rattle.wasm_streams.specs.declared.cursor.Cursor.{Cursor}
 use Rattle.wasm_streams.specs.declared.passing.Passing.{Passing}
-use Rattle.wasm_text.specs.declared.devices.ListError.{ListError}
-use Rattle.wasm_text.specs.declared.devices.ListError.TheVariants.{Input}
-use Rattle.wasm_tree.specs.Found.{Finds, Noted}
-use Rattle.wasm_tree.specs.Numbers.{more}
-use Rattle.wasm_tree.specs.Tree.{Writing}
+use Rattle.wasm_io.specs.declared.devices.ListError.{ListError}
+use Rattle.wasm_io.specs.declared.devices.ListError.TheVariants.{Input}
+use Rattle.wasm_output.specs.Found.{Finds, Noted}
+use Rattle.wasm_output.specs.Numbers.{more}
+use Rattle.wasm_output.specs.Tree.{Writing}
 use Rattle.wasm_dumper.specs.Checks.{shown_notes}
 use Rattle.wasm_dumper.specs.Chosen.{is_chosen_by, is_chosen_with, shows_items}
 use Rattle.wasm_dumper.specs.Counting.{after}

@@ -1,20 +1,19 @@
 // Collects the names of items from the custom sections of a stream: `name`, or else `linking`.
 ghost use Rattle.std.specs.Prelude.{◌≡◌, ◌<◌, ◌≤◌, ◌+◌, length, vec_capacity, vec_len, IfErr, if◌then◌else◌};
-ghost use Rattle.wasm_text.specs.declared.devices.ListError.TheVariants.{Memory};
-ghost use Rattle.wasm_tree.specs.ItemNames.{KeepsNames};
+ghost use Rattle.wasm_io.specs.declared.devices.ListError.TheVariants.{Memory};
+ghost use Rattle.wasm_output.specs.ItemNames.{KeepsNames};
 
 use crate::events::{Only, Shown};
 use crate::hidden::{Outline, Skipped, drop_part, skip_unread};
 use crate::linked::Linked;
 use std::alloc::Global;
 use wasm_custom::{Name, NameMap, NameSectionReader};
-use wasm_feed::{Step, parse_next};
 use wasm_frames::StoredParser;
 use wasm_grammar::CUSTOM_SECTION;
-use wasm_parser::{Payload, Result as ParserResult};
-use wasm_streams::{Ahead, Cursor, seen};
-use wasm_text::{ListError, Source};
-use wasm_tree::{ItemNames, Space};
+use wasm_io::{ListError, Source};
+use wasm_output::{ItemNames, Space};
+use wasm_parser::Payload;
+use wasm_streams::{Ahead, Cursor, FrameStep, next_frame, seen};
 
 /// The number of bytes that are read at once, at most.
 const PIECE: usize = 65_536;
@@ -150,19 +149,17 @@ impl Collected {
     }
 
     // Adds the names of the payload that a step returned. Returns what to do next.
-    fn add_answer(
-        &mut self,
-        alloc: Global,
-        answer: &ParserResult<Step<'_>>,
-    ) -> Result<Next, ListError>
+    fn add_answer(&mut self, alloc: Global, answer: FrameStep<'_>) -> Result<Next, ListError>
         ensures keeps { KeepsNames self.old.named self.new.named }
         ensures linked { KeepsNames self.old.linked.names self.new.linked.names }
         ensures memory { IfErr result (λ why. why ≡ Memory) }
     {
         match answer {
-            Ok(Step::NeedMoreData(_)) => Ok(Next::Read),
-            Ok(Step::Parsed { bytes, payload }) => self.add_payload(alloc, bytes, payload),
-            Err(_) => Ok(Next::End),
+            FrameStep::NeedMoreData(_) => Ok(Next::Read),
+            FrameStep::Parsed { frame, bytes } => {
+                self.add_payload(alloc, bytes, &Payload::from(frame))
+            }
+            FrameStep::Fault(_) => Ok(Next::End),
         }
     }
 
@@ -256,10 +253,8 @@ fn add_next<R: Source>(
     ensures memory { IfErr result (λ why. why ≡ Memory) }
 {
     ahead.make_ready(cursor, stored)?;
-    let answer = parse_next(cursor, seen(stored, ahead.bytes()));
-    let next = names.add_answer(alloc, &answer);
-    drop(answer);
-    match next? {
+    let answer = next_frame(cursor, seen(stored, ahead.bytes()));
+    match names.add_answer(alloc, answer)? {
         Next::Step => {
             ahead.pass_borrowed(cursor, stored);
             Ok(true)

@@ -7,8 +7,8 @@ ghost use Rattle.wasm_items.specs.Flattened.{flattened};
 ghost use Rattle.wasm_parser.specs.ParseAnswer.{ItemsBegin, report_of};
 
 use wasm_items::{ImportSection, ImportSectionReader, TypeRef};
+use wasm_output::Space;
 use wasm_parser::Payload;
-use wasm_tree::Space;
 
 /// The number of items so far that come before later items in the same index space: imports, and function bodies.
 ///

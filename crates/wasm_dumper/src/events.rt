@@ -12,21 +12,21 @@ ghost use Rattle.wasm_frames.specs.Frame.{unread};
 ghost use Rattle.wasm_frames.specs.SkipNext.{custom, skip_is, windowed};
 ghost use Rattle.wasm_lines.specs.Listing.{line_in, skip_text};
 ghost use Rattle.wasm_parser.specs.ParseAnswer.{report_of};
-ghost use Rattle.wasm_tree.specs.Found.{Finds, FindsNone};
-ghost use Rattle.wasm_tree.specs.Tree.{Adds, AddsFirst, base_of, has_line_feed};
+ghost use Rattle.wasm_output.specs.Found.{Finds, FindsNone};
+ghost use Rattle.wasm_output.specs.Tree.{Adds, AddsFirst, base_of, has_line_feed};
 
 use crate::counts::Counts;
+use crate::lines::write_payload;
 use std::cell::Cell;
 use std::ops::Range;
 use wasm_base::Error;
 use wasm_custom::CustomSectionReader;
-use wasm_feed::write_payload;
 use wasm_grammar::{CODE_SECTION, CUSTOM_SECTION, section_name};
+use wasm_io::{Base, ShortText, write_word};
 use wasm_items::FunctionBody;
 use wasm_lines::{FaultLine, SkippedLine, encoding_name};
+use wasm_output::{Space, Style, Tree, Within, write_item};
 use wasm_parser::{Encoding, PartHead, Payload, SkippedPart};
-use wasm_text::{Base, ShortText, write_word};
-use wasm_tree::{Space, Style, Tree, Within, write_item};
 
 /// A choice of events for a dump.
 ///

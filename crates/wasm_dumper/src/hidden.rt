@@ -12,8 +12,8 @@ ghost use Rattle.wasm_streams.specs.Passing.{held_by};
 ghost use Rattle.wasm_frames.specs.SkipNext.{head_is, report_with, skip_is};
 ghost use Rattle.wasm_grammar.specs.Reading.{custom_section};
 ghost use Rattle.wasm_parser.specs.ParseAnswer.{ItemsBegin, report_of};
-ghost use Rattle.wasm_text.specs.Calls.{input_failed};
-ghost use Rattle.wasm_text.specs.declared.devices.ListError.TheVariants.{Memory};
+ghost use Rattle.wasm_io.specs.Calls.{input_failed};
+ghost use Rattle.wasm_io.specs.declared.devices.ListError.TheVariants.{Memory};
 
 use crate::events::{CustomFields, Only, Shown, is_chosen_by_any, shows_items};
 use crate::linked::LINKING;
@@ -22,9 +22,9 @@ use std::io;
 use wasm_base::BinaryReader;
 use wasm_custom::CustomSectionReader;
 use wasm_grammar::{CODE_SECTION, CUSTOM_SECTION, IMPORT_SECTION};
+use wasm_io::{ListError, Page, Source};
 use wasm_parser::{Error, PartHead, Payload, SkippedPart};
 use wasm_streams::{Ahead, Cursor, Passing, pass_part};
-use wasm_text::{ListError, Page, Source};
 
 /// A part that was skipped by its first fields.
 #[derive(Drop)]

@@ -1,8 +1,8 @@
 // The names that an object file has: those of its symbols, and by them of its items.
 ghost use Rattle.std.specs.Prelude.{◌≡◌, IfErr, None, OnOk, Some};
-ghost use Rattle.wasm_text.specs.declared.devices.ListError.TheVariants.{Memory};
-ghost use Rattle.wasm_tree.specs.ItemNames.{KeepsNames};
-ghost use Rattle.wasm_tree.specs.Tree.{Adds};
+ghost use Rattle.wasm_io.specs.declared.devices.ListError.TheVariants.{Memory};
+ghost use Rattle.wasm_output.specs.ItemNames.{KeepsNames};
+ghost use Rattle.wasm_output.specs.Tree.{Adds};
 
 use crate::counts::{Counts, import_space};
 use crate::events::{Only, chooses, shows_items};
@@ -12,10 +12,10 @@ use wasm_base::BinaryReader;
 use wasm_custom::{
     CustomSectionReader, Linking, LinkingSectionReader, SegmentMap, SymbolInfo, SymbolInfoMap,
 };
+use wasm_io::ListError;
 use wasm_items::{Import, ImportSection, ImportSectionReader};
+use wasm_output::{ItemNames, Space, Tree};
 use wasm_parser::Payload;
-use wasm_text::ListError;
-use wasm_tree::{ItemNames, Space, Tree};
 
 /// The name of the section with the symbols of an object file (tool conventions, Linking).
 pub(crate) const LINKING: &str = "linking";

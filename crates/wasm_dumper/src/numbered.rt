@@ -6,11 +6,11 @@ ghost use Rattle.wasm_base.specs.Window.{Place, place};
 ghost use Rattle.wasm_items.specs.Flattened.{flattened, found_at};
 ghost use Rattle.wasm_items.specs.RecGroups.{rec_group_at};
 ghost use Rattle.wasm_show.specs.Faults.{Agrees, FindsFaults, FindsItem, faults_among, no_lists, plainly, section_faults};
-ghost use Rattle.wasm_tree.specs.Found.{FindsNone};
+ghost use Rattle.wasm_output.specs.Found.{FindsNone};
 ghost use Rattle.wasm_dumper.specs.Counting.{after_found, count_of, number_found, import_number, import_numbers, with_import};
 ghost use Rattle.wasm_dumper.specs.Counting.{one_number};
-ghost use Rattle.wasm_tree.specs.declared.numbers.Space.TheVariants.{Types};
-ghost use Rattle.wasm_tree.specs.Tree.{AddsAll, AddsItems, AddsNext, AddsNumber, AddsThese, AddsUpTo};
+ghost use Rattle.wasm_output.specs.declared.numbers.Space.TheVariants.{Types};
+ghost use Rattle.wasm_output.specs.Tree.{AddsAll, AddsItems, AddsNext, AddsNumber, AddsThese, AddsUpTo};
 
 use crate::counts::{Counts, import_space};
 use std::alloc::Global;
@@ -18,8 +18,8 @@ use wasm_base::{FromReader, Result, SectionLimited};
 use wasm_items::{
     Import, ImportSection, ImportSectionReader, RecGroup, SubType, TypeSectionReader,
 };
+use wasm_output::{Space, Start, Tree};
 use wasm_show::{Items, Show, Text, show_fault, show_fields};
-use wasm_tree::{Space, Start, Tree};
 
 // Begins the line of an item that has this index.
 fn begin_item<O: Tree>(offset: u64, space: Space, index: u64, out: &mut O)

@@ -4,16 +4,16 @@ ghost use Rattle.wasm_streams.specs.Beside.{beside, lending, ReadsEnough};
 ghost use Rattle.wasm_streams.specs.Cursors.{feed_of};
 ghost use Rattle.wasm_streams.specs.Step.{Part as a_part};
 ghost use Rattle.wasm_parser.specs.ParseAnswer.{ItemsBegin, report_of};
-ghost use Rattle.wasm_text.specs.Calls.{device_of, from_to};
+ghost use Rattle.wasm_io.specs.Calls.{device_of, from_to};
 ghost use Rattle.wasm_dumper.specs.Dump.{DumpsByTree, DumpsInto, ShowsAnswer, ShowsItems, ShowsItemsIf, ShowsReport, after_answer};
 ghost use Rattle.wasm_dumper.specs.Checks.{FindsAt, answer_notes, notes_if, report_faults, report_notes, shown_notes, site_note};
 ghost use Rattle.wasm_dumper.specs.Dumping.{dump_stages, dumper};
 ghost use Rattle.wasm_dumper.specs.Hiding.{CountsOutline, FindsOutline, ShowsOutline};
 ghost use Rattle.wasm_dumper.specs.declared.hidden.Outline.TheVariants.{Custom};
 ghost use Rattle.wasm_show.specs.Faults.{FindsFaults};
-ghost use Rattle.wasm_tree.specs.Found.{Finds, FindsNone};
-ghost use Rattle.wasm_tree.specs.Values.{note_of};
-ghost use Rattle.wasm_tree.specs.Tree.{Adds, AddsBytes, IsOut};
+ghost use Rattle.wasm_output.specs.Found.{Finds, FindsNone};
+ghost use Rattle.wasm_output.specs.Values.{note_of};
+ghost use Rattle.wasm_output.specs.Tree.{Adds, AddsBytes, IsOut};
 
 use crate::counts::Counts;
 use crate::events::{
@@ -25,11 +25,11 @@ use crate::linked::{Linked, learn_payload, learn_skipped, stop};
 use crate::numbered::{show_groups, show_imports, show_numbered};
 use std::alloc::Global;
 use wasm_frames::Frame;
+use wasm_io::{ListError, Source};
+use wasm_output::{Offsets, Space, Tree, Within};
 use wasm_parser::{Error, Payload};
 use wasm_show::{show_custom, show_section};
 use wasm_streams::{Ahead, Cursor, Ended, Visitor, seen, visit};
-use wasm_text::{ListError, Source};
-use wasm_tree::{Offsets, Space, Tree, Within};
 
 // The place of the items of a payload.
 fn within<'a>(payload: &Payload<'a>) -> Within<'a>

@@ -19,10 +19,10 @@ pub use Rattle.wasm_grammar.specs.Reading.{Event, last_event, Reading}
 pub use Rattle.wasm_grammar.specs.declared.encoding.Encoding.{Encoding}
 pub use Rattle.wasm_frames.proofs.ForCallers.{answers_go_along}
 pub use Rattle.wasm_frames.specs.SkipNext.{skip_is}
-pub use Rattle.wasm_text.proofs.ForCallers.{cut_of}
-pub use Rattle.wasm_text.specs.Calls.{from_to}
-pub use Rattle.wasm_text.specs.Page.{IsCut, PutsBytes}
-pub use Rattle.wasm_text.specs.declared.devices.ListError.{ListError}
+pub use Rattle.wasm_io.proofs.ForCallers.{cut_of}
+pub use Rattle.wasm_io.specs.Calls.{from_to}
+pub use Rattle.wasm_io.specs.Page.{IsCut, PutsBytes}
+pub use Rattle.wasm_io.specs.declared.devices.ListError.{ListError}
 pub use Rattle.wasm_edits.specs.EditStream.{StopsHere}
 pub use Rattle.wasm_edits.specs.Stripped.{frame_stays, event_stays, EndsWithFault, IsStripped}
 pub use Rattle.wasm_edits.specs.EditParts.{HasEdited, ReadsEdited}

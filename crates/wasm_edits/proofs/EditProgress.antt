@@ -24,8 +24,8 @@ use Rattle.wasm_streams.specs.declared.turns.Ended.TheVariants.{End}
 use Rattle.wasm_streams.specs.declared.turns.Turn.{Turn}
 use Rattle.wasm_grammar.specs.Reading.{Report}
 use Rattle.wasm_frames.specs.SkipNext.{Head, Skip, skip_in}
-use Rattle.wasm_text.specs.Page.{WritesHead, WritesOut}
-use Rattle.wasm_text.specs.declared.devices.ListError.TheVariants.{Input, Memory, Output}
+use Rattle.wasm_io.specs.Page.{WritesHead, WritesOut}
+use Rattle.wasm_io.specs.declared.devices.ListError.TheVariants.{Input, Memory, Output}
 use Rattle.wasm_edits.proofs.EditLaws.{edited_more, edits_so}
 use Rattle.wasm_streams.proofs.ForCallers.{IsEvent, all_given, begins, begins_with, consumed, whole_input, head_after, head_before}
 use Rattle.wasm_streams.proofs.ForCallers.{head_of_cut, head_of_puts, head_past, puts_out, same_held}

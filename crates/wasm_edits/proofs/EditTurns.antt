@@ -12,8 +12,8 @@ use Rattle.wasm_streams.specs.declared.turns.Ended.{Ended}
 use Rattle.wasm_streams.specs.declared.turns.Turn.{Turn}
 use Rattle.wasm_streams.specs.declared.turns.Turn.TheVariants as turn
 use Rattle.wasm_streams.proofs.ForCallers.{MeetsBy, input_kept, meets, sink_then}
-use Rattle.wasm_text.specs.Calls.{Device, bytes_of, from_to, input_failed, output_failed}
-use Rattle.wasm_text.specs.declared.devices.ListError.TheVariants.{Memory}
+use Rattle.wasm_io.specs.Calls.{Device, bytes_of, from_to, input_failed, output_failed}
+use Rattle.wasm_io.specs.declared.devices.ListError.TheVariants.{Memory}
 
 module _ {V W : Type 0} (edits : V → List Edit) (page : V → List ℕ) (taken : W → Option (List ℕ)) (failed : W → Bool) where
   abbrev pub writer : Writer V W (List Edit)

@@ -30,9 +30,9 @@ use Rattle.wasm_grammar.specs.Content.{Ending}
 use Rattle.wasm_grammar.specs.EventRanges.{consumed_by}
 use Rattle.wasm_grammar.specs.Reading.{Event, last_event, Stream}
 use Rattle.wasm_frames.specs.Along.{Along, ReadingBegins}
-use Rattle.wasm_text.specs.Calls.{Change, Device, output_failed}
-use Rattle.wasm_text.specs.Page.{IsCut, PutsBytes, WritesHead}
-use Rattle.wasm_text.specs.declared.devices.ListError.{ListError}
+use Rattle.wasm_io.specs.Calls.{Change, Device, output_failed}
+use Rattle.wasm_io.specs.Page.{IsCut, PutsBytes, WritesHead}
+use Rattle.wasm_io.specs.declared.devices.ListError.{ListError}
 
 -- ---- bytes that are forwarded
 

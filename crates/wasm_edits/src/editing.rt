@@ -9,8 +9,8 @@ use crate::edits::{Edit, Fate, added_by, frame_fate};
 use std::alloc::Allocator;
 use wasm_base::{Error, Fault, Result};
 use wasm_frames::{Frame, FrameKind, StoredParser};
+use wasm_io::write_bytes;
 use wasm_streams::{Cursor, FrameStep, next_frame};
-use wasm_text::write_bytes;
 
 /// A part of a stream that is edited.
 #[derive(Clone, Copy)]

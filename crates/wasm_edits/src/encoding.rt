@@ -6,7 +6,7 @@ ghost use Rattle.wasm_edits.specs.Encoded.{Fits, content_of, encoded, encoded_se
 
 use std::alloc::Allocator;
 use wasm_base::{Error, Fault, MAX_WASM_STRING_SIZE, Result};
-use wasm_text::write_bytes;
+use wasm_io::write_bytes;
 
 /// A custom section to write: its name and its data.
 ///

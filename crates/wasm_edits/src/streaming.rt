@@ -1,6 +1,6 @@
 // Editing a stream that need not fit in memory.
 ghost use Rattle.std.specs.Prelude.{◌≡◌, ◌+◌, ◌≤◌, [], ◌∷◌, All, length, IfErr, IfOk, vec_len, vec_capacity};
-ghost use Rattle.wasm_text.specs.Calls.{device_of, input_failed, output_failed};
+ghost use Rattle.wasm_io.specs.Calls.{device_of, input_failed, output_failed};
 ghost use Rattle.wasm_streams.specs.Beside.{beside};
 ghost use Rattle.wasm_streams.specs.Cursors.{feed_of};
 ghost use Rattle.wasm_streams.specs.Passing.{PutsAll};
@@ -17,8 +17,8 @@ use crate::fates::Keep;
 use std::alloc::Allocator;
 use wasm_base::Error;
 use wasm_frames::{Frame, FrameKind};
+use wasm_io::{ListError, Page, Sink, Source};
 use wasm_streams::{Ahead, Cursor, Ended, Passing, Visitor, pass_part, put_all, seen, visit};
-use wasm_text::{ListError, Page, Sink, Source};
 
 // Puts a new section on the page.
 fn put_section<A: Allocator + Copy, W: Sink>(

@@ -8,7 +8,7 @@ ghost use Rattle.wasm_feed.specs.Steps.{StepsOver};
 ghost use Rattle.wasm_streams.specs.Cursors.{feed_of};
 ghost use Rattle.wasm_streams.specs.Feed.{new_feed, pushed, finished, RefusesPush};
 ghost use Rattle.wasm_streams.specs.Lists.{Refills};
-ghost use Rattle.wasm_text.specs.Calls.{input_failed};
+ghost use Rattle.wasm_io.specs.Calls.{input_failed};
 ghost use Rattle.wasm_streams.specs.Step.{Part, StepsAt};
 ghost use Rattle.wasm_feed.specs.Steps.{GivesStep, StepBegins, told};
 
@@ -16,12 +16,12 @@ use bitflags::Flags;
 use std::alloc::{Allocator, Global};
 use std::marker::Model;
 use wasm_frames::{Frame, FrameKind, StoredParser};
+use wasm_io::{ListError, Source};
 use wasm_parser::{Error, Fault, Payload, Result, WasmFeatures, fits};
 use wasm_streams::{
     Cursor, FrameStep, make_ready, next_frame_for, next_stored_for, read_more, refill, seen,
     take_left,
 };
-use wasm_text::{ListError, Source};
 
 /// The result of one step of a feeder: a part of the stream, or a request for more input.
 ///

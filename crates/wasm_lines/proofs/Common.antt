@@ -12,10 +12,10 @@ pub use Rattle.wasm_grammar.specs.Reading.{last_event}
 pub use Rattle.wasm_streams.specs.Lists.{listing_by}
 pub use Rattle.wasm_lines.specs.Listing.{line_of}
 pub use Rattle.wasm_frames.specs.SkipNext.{skip_is}
-pub use Rattle.wasm_text.proofs.ForCallers.{cut_of}
-pub use Rattle.wasm_text.specs.Calls.{from_to}
-pub use Rattle.wasm_text.specs.Page.{IsCut, PutsBytes}
-pub use Rattle.wasm_text.specs.declared.devices.ListError.{ListError}
+pub use Rattle.wasm_io.proofs.ForCallers.{cut_of}
+pub use Rattle.wasm_io.specs.Calls.{from_to}
+pub use Rattle.wasm_io.specs.Page.{IsCut, PutsBytes}
+pub use Rattle.wasm_io.specs.declared.devices.ListError.{ListError}
 pub use Rattle.wasm_streams.proofs.ForCallers.{AtEnd, arrived, cut, cut_within, is_short, past, puts_more, begun}
 pub use Rattle.wasm_streams.proofs.ForCallers.{nothing_read}
 pub use Rattle.wasm_streams.specs.Beside.{seen, lending, beside}

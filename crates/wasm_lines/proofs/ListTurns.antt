@@ -11,9 +11,9 @@ use Rattle.wasm_streams.specs.Writers.{Writer, writer_stages}
 use Rattle.wasm_grammar.specs.Reading.{Report}
 use Rattle.wasm_streams.specs.declared.turns.Turn.{Turn}
 use Rattle.wasm_streams.specs.declared.turns.Turn.TheVariants as turn
-use Rattle.wasm_text.specs.Calls.{Change, Device, bytes_of, from_to, input_failed, output_failed}
-use Rattle.wasm_text.specs.Page.{Puts}
-use Rattle.wasm_text.specs.declared.devices.ListError.TheVariants.{Memory}
+use Rattle.wasm_io.specs.Calls.{Change, Device, bytes_of, from_to, input_failed, output_failed}
+use Rattle.wasm_io.specs.Page.{Puts}
+use Rattle.wasm_io.specs.declared.devices.ListError.TheVariants.{Memory}
 
 -- the line of a part was put
 pub line_taken : (taken written : Option (List ℕ)) (waiting new : List ℕ) (report : Report) (bytes : List ℕ)

@@ -16,7 +16,7 @@ use Rattle.wasm_streams.specs.Passing.{PassesPart}
 use Rattle.wasm_grammar.specs.Reading.{stream_end}
 use Rattle.wasm_lines.specs.Listing.{skip_text}
 use Rattle.wasm_frames.specs.SkipNext.{Head}
-use Rattle.wasm_text.specs.declared.digits.Base.TheVariants.{Decimal}
+use Rattle.wasm_io.specs.declared.digits.Base.TheVariants.{Decimal}
 use Rattle.wasm_streams.proofs.ForCallers.{cut_at_end, dropped_before, listed_to_end, none_put, one_more, reads_short}
 use Rattle.wasm_lines.proofs.ForCallers.{skipped_text}
 

@@ -3,7 +3,7 @@ use Rattle.std.proofs.Common.{◌≡◌, Option, Some, None, ap}
 use Rattle.wasm_grammar.specs.Reading.{Report, custom_section, counted, unknown_section, code_entry}
 use Rattle.wasm_frames.specs.SkipNext.{Skip, skip_in}
 use Rattle.wasm_lines.specs.Listing.{report_text, skip_text}
-use Rattle.wasm_text.specs.declared.digits.Base.{Base}
+use Rattle.wasm_io.specs.declared.digits.Base.{Base}
 
 abbrev skip_or : Skip → Option Skip → Skip
 skip_or s (Some x) = x

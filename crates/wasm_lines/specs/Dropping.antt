@@ -1,7 +1,7 @@
 -- A part that a listing skips.
 use Rattle.std.specs.Prelude.{◌≡◌, ℕ, false, List, Option, Some, None}
 use Rattle.wasm_lines.specs.Listing.{skip_text}
-use Rattle.wasm_text.specs.declared.digits.Base.TheVariants.{Decimal}
+use Rattle.wasm_io.specs.declared.digits.Base.TheVariants.{Decimal}
 use Rattle.wasm_frames.specs.SkipNext.{skip_is}
 use Rattle.wasm_streams.specs.Passing.{SkipsHere, SkipsNothing}
 use Rattle.wasm_streams.specs.declared.cursor.Cursor.{Cursor}

@@ -6,9 +6,9 @@ use Rattle.wasm_streams.specs.Step.{Told}
 use Rattle.wasm_streams.specs.Writers.{Runs, Writer}
 use Rattle.wasm_streams.specs.declared.turns.Ended.{Ended}
 use Rattle.wasm_lines.specs.Listing.{line_of}
-use Rattle.wasm_text.specs.Calls.{Change, Device}
-use Rattle.wasm_text.specs.Page.{IsCut, PutsBytes}
-use Rattle.wasm_text.specs.declared.devices.ListError.{ListError}
+use Rattle.wasm_io.specs.Calls.{Change, Device}
+use Rattle.wasm_io.specs.Page.{IsCut, PutsBytes}
+use Rattle.wasm_io.specs.declared.devices.ListError.{ListError}
 
 -- the line that is written after a step
 abbrev pub line_after : Told → List ℕ

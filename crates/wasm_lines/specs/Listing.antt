@@ -8,9 +8,9 @@ use Rattle.wasm_grammar.specs.Reading.{code_entry, custom_section, unknown_secti
 use Rattle.wasm_grammar.specs.declared.encoding.Encoding.{Encoding}
 use Rattle.wasm_grammar.specs.declared.encoding.Encoding.TheVariants.{Module, Component}
 use Rattle.wasm_frames.specs.SkipNext.{Head, Skip, custom, items, unknown, body}
-use Rattle.wasm_text.specs.Offsets.{offset_text}
-use Rattle.wasm_text.specs.declared.digits.Base.{Base}
-use Rattle.wasm_text.specs.declared.digits.Base.TheVariants.{Decimal}
+use Rattle.wasm_io.specs.Offsets.{offset_text}
+use Rattle.wasm_io.specs.declared.digits.Base.{Base}
+use Rattle.wasm_io.specs.declared.digits.Base.TheVariants.{Decimal}
 
 -- a blank and a number
 abbrev pub field : ℕ → List ℕ

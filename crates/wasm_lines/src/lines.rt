@@ -11,7 +11,7 @@ use std::ops::Range;
 use wasm_base::Error;
 use wasm_frames::{Frame, FrameKind, PartHead, SkippedPart};
 use wasm_grammar::Encoding;
-use wasm_text::{Base, ShortText, write_number, write_offset, write_word};
+use wasm_io::{Base, ShortText, write_number, write_offset, write_word};
 
 /// Returns the name of an encoding in listings: `module` or `component`.
 pub fn encoding_name(encoding: Encoding) -> &'static str

@@ -1,9 +1,9 @@
 // The listing of a stream.
 ghost use Rattle.std.specs.Prelude.{◌≡◌, ◌+◌, ◌≤◌, length, vec_len, vec_capacity};
-ghost use Rattle.wasm_text.specs.Calls.{change_of, device_of, input_failed, output_failed};
-ghost use Rattle.wasm_text.specs.Page.{WritesOut};
+ghost use Rattle.wasm_io.specs.Calls.{change_of, device_of, input_failed, output_failed};
+ghost use Rattle.wasm_io.specs.Page.{WritesOut};
 ghost use Rattle.wasm_lines.specs.Listing.{line_of, skip_text};
-ghost use Rattle.wasm_text.specs.declared.digits.Base.TheVariants.{Decimal};
+ghost use Rattle.wasm_io.specs.declared.digits.Base.TheVariants.{Decimal};
 ghost use Rattle.wasm_frames.specs.SkipNext.{skip_is};
 ghost use Rattle.wasm_streams.specs.Beside.{beside, lending};
 ghost use Rattle.wasm_streams.specs.Cursors.{feed_of};
@@ -17,8 +17,8 @@ use crate::lines::{FaultLine, FrameLine, SkippedLine};
 use std::alloc::{Allocator, Global};
 use wasm_base::Error;
 use wasm_frames::{Frame, PartHead, SkippedPart};
+use wasm_io::{Base, ListError, Page, Sink, Source};
 use wasm_streams::{Ahead, Cursor, Ended, Passing, Visitor, pass_part, seen, visit};
-use wasm_text::{Base, ListError, Page, Sink, Source};
 
 // Puts the line of the fault at which the stream stops on the page.
 fn put_fault<A: Allocator, W: Sink>(

@@ -3,16 +3,16 @@ use Rattle.std.proofs.Common.{◌≡◌, ◌⊎◌, ℕ, ◌<◌, Bool, List, Op
 use Rattle.std.proofs.Common.{inr}
 use Rattle.std.specs.Io.KnownBytes.{Appends, Keeps}
 use Rattle.wasm_lines.specs.ListStream.{Lists}
-use Rattle.wasm_text.specs.Calls.{Device, from_to}
+use Rattle.wasm_io.specs.Calls.{Device, from_to}
 use Rattle.std.proofs.KnownBytes.{Appends-kept}
 use Rattle.wasm_console.specs.Devices.{over, Follows, IsUntouched}
-use Rattle.wasm_text.specs.Messages.{Says}
+use Rattle.wasm_io.specs.Messages.{Says}
 use Rattle.wasm_console.specs.Endings.{RunsUsage, Flushes, FailsToFlush, LeavesAlone, Finishes, status_for}
 use Rattle.wasm_list.specs.ListCommands.{Asked}
 use Rattle.wasm_list.specs.ListRuns.{RunsListingAs, Runs, EndsAs, ListsAll, RunsThenFlushes, RunsWhole, usage}
 use Rattle.wasm_streams.specs.declared.turns.Ended.{Ended}
 use Rattle.wasm_streams.specs.declared.turns.Ended.TheVariants.{End, Fault}
-use Rattle.wasm_text.specs.declared.devices.ListError.{ListError}
+use Rattle.wasm_io.specs.declared.devices.ListError.{ListError}
 
 lists_kept : (source rest taken written kept : Option (List ℕ)) (how : Ended) → Lists (from_to source rest) (from_to taken written) (Ok how)
     → Keeps written kept

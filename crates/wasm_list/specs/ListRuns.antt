@@ -1,8 +1,8 @@
 -- What a run of the program does.
 use Rattle.std.specs.Prelude.{◌≡◌, ◌⊎◌, ℕ, Bool, List, codes, map, string_bytes, Option, Some, None, Result, Ok, Err}
-use Rattle.wasm_text.specs.Calls.{Device, bytes_of, input_failed, output_failed}
-use Rattle.wasm_text.specs.Messages.{Says, complaint_of}
-use Rattle.wasm_text.specs.declared.devices.ListError.{ListError}
+use Rattle.wasm_io.specs.Calls.{Device, bytes_of, input_failed, output_failed}
+use Rattle.wasm_io.specs.Messages.{Says, complaint_of}
+use Rattle.wasm_io.specs.declared.devices.ListError.{ListError}
 use Rattle.wasm_lines.specs.ListStream.{Lists, ListsSource}
 use Rattle.wasm_edits.specs.Fates.{custom_stays}
 use Rattle.wasm_streams.specs.declared.turns.Ended.{Ended}

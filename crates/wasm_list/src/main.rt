@@ -10,7 +10,7 @@ pub use run::run;
 use run::run_program;
 use std::env;
 use std::process::ExitCode;
-use wasm_text::{ReadSource, WriteSink};
+use wasm_io::{ReadSource, WriteSink};
 
 fn main(rt: HostRuntime) -> ExitCode {
     let mut input = ReadSource::new(rt.stdin());

@@ -6,7 +6,7 @@ ghost use Rattle.wasm_console.specs.Arguments.{WantsMemory};
 ghost use Rattle.wasm_console.specs.Strips.{AnswersAs};
 ghost use Rattle.wasm_list.specs.ListCommands.{asked_by, asked_if_any, asked_of};
 ghost use Rattle.wasm_list.specs.ListRuns.{Runs, RunsGiven, RunsListing, RunsProgram, RunsStripping, RunsWhole};
-ghost use Rattle.wasm_text.specs.Calls.{device_of, writer_device};
+ghost use Rattle.wasm_io.specs.Calls.{device_of, writer_device};
 
 use crate::command::{Command, command_of};
 use std::alloc::Global;
@@ -15,9 +15,9 @@ use std::io::{self, Write};
 use std::process::ExitCode;
 use wasm_console::{Given, PIECE, finish, report_fault, strip_input, words_given};
 use wasm_edits::Keep;
+use wasm_io::{ListError, Sink, Source, WriteSink, complain, give_up};
 use wasm_lines::list;
 use wasm_streams::Ended;
-use wasm_text::{ListError, Sink, Source, WriteSink, complain, give_up};
 
 /// Runs `wasm_list` with arguments as the system has them, flushes the output, and returns the exit status.
 ///

@@ -5,9 +5,9 @@ use std::env::Args;
 use std::io::{self, Read, Write};
 use std::process::{Abort, ExitCode};
 use std::test::Fail;
+use test_devices::Measuring;
 use wasm_console::finish;
-use wasm_testing::Measuring;
-use wasm_text::{BoundedSink, ReadSource, Sink, SliceSource, Source, WriteSink};
+use wasm_io::{BoundedSink, ReadSource, Sink, SliceSource, Source, WriteSink};
 
 const MODULE: &[u8] = b"\0asm\x01\0\0\0\0\x02\x01a";
 

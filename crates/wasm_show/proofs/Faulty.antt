@@ -32,9 +32,9 @@ use Rattle.wasm_items.specs.Imports.{ImportParts}
 use Rattle.wasm_items.specs.declared.imports.Import.{Import}
 use Rattle.wasm_show.specs.Faults.{AfterItem, Agrees, OwesItems, OwesList, or_later, items_faults, left_faults, FindsFault}
 use Rattle.wasm_show.specs.Faults.{FindsItem, GivesOwed, entries_faults, map_faults, or_in_order, with_offset}
-use Rattle.wasm_tree.specs.Found.{FindsNone, HasStopped, Noted}
-use Rattle.wasm_tree.specs.Notes.{Note, faults, faulty}
-use Rattle.wasm_tree.proofs.ForCallers.{finds_no_more, finds_nothing, finds_same, finds_stopped, finds_then, finds_wider, stops_still}
+use Rattle.wasm_output.specs.Found.{FindsNone, HasStopped, Noted}
+use Rattle.wasm_output.specs.Notes.{Note, faults, faulty}
+use Rattle.wasm_output.proofs.ForCallers.{finds_no_more, finds_nothing, finds_same, finds_stopped, finds_then, finds_wider, stops_still}
 
 -- ---- faults as notes
 

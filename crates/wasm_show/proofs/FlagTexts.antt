@@ -2,9 +2,9 @@
 use Rattle.std.proofs.Common.{◌≡◌, ℕ, Bool, true, false, nat_eq, ◌||◌, List, [], ◌∷◌, ◌++◌, codes, decimal, ap, append_assoc}
 use Rattle.std.proofs.Common.{append-nil, arith, if◌then◌else◌}
 use Rattle.std.specs.List.{flat_map}
-use Rattle.wasm_tree.specs.Said.{Says}
-use Rattle.wasm_tree.specs.Tree.{Writing}
-use Rattle.wasm_tree.proofs.ForCallers.{says_then, says_same}
+use Rattle.wasm_output.specs.Said.{Says}
+use Rattle.wasm_output.specs.Tree.{Writing}
+use Rattle.wasm_output.proofs.ForCallers.{says_then, says_same}
 use Rattle.wasm_show.specs.FlagText.{Flags, has_flag, names_set, with_unnamed, joined, flag_after, unnamed_after}
 
 -- the parts of a text of flags, after names or not

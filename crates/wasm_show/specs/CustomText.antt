@@ -9,7 +9,7 @@ use Rattle.wasm_custom.specs.declared.dylink0.MemInfo.{MemInfo}
 use Rattle.wasm_custom.specs.declared.names.Naming.{Naming}
 use Rattle.wasm_custom.specs.declared.producers.ProducersFieldValue.{ProducersFieldValue}
 use Rattle.wasm_custom.specs.declared.target_features.TargetFeature.{TargetFeature}
-use Rattle.wasm_tree.specs.Fields.{Field, alone, flag, named, number, quoted, signed}
+use Rattle.wasm_output.specs.Fields.{Field, alone, flag, named, number, quoted, signed}
 
 -- | the fields of a hint, a value of a producer, a feature, a name, the memory of a dynamic library, a value of a core
 --   dump [`value_fields`, `feature_fields`, `naming_fields`, `mem_info_fields`, `core_value_fields`] <tool conventions>

@@ -8,7 +8,7 @@ use Rattle.wasm_items.specs.Windows.{bytes_of_vector}
 use Rattle.wasm_items.specs.declared.init.ConstOperator.{ConstOperator}
 use Rattle.wasm_items.specs.declared.init.ConstOperator.TheVariants as operators
 use Rattle.wasm_show.specs.TypeText.{after_blank, heap_text}
-use Rattle.wasm_tree.specs.Fields.{hexadecimal}
+use Rattle.wasm_output.specs.Fields.{hexadecimal}
 
 abbrev pub operator_word : ConstOperator → List ℕ
 operator_word operators.End = codes "end"

@@ -30,8 +30,8 @@ use Rattle.wasm_custom.specs.declared.names.IndirectNaming.{IndirectNaming}
 use Rattle.wasm_custom.specs.declared.names.Name.{Name}
 use Rattle.wasm_custom.specs.declared.producers.ProducersField.{ProducersField}
 use Rattle.wasm_custom.specs.declared.reloc.RelocSectionReader.{RelocSectionReader}
-use Rattle.wasm_tree.specs.Found.{Finds, FindsNone, HasStopped, Noted}
-use Rattle.wasm_tree.specs.Notes.{faults}
+use Rattle.wasm_output.specs.Found.{Finds, FindsNone, HasStopped, Noted}
+use Rattle.wasm_output.specs.Notes.{faults}
 
 -- ---- items of a window
 

@@ -3,7 +3,7 @@ use Rattle.std.specs.Prelude.{ℕ, ◌-◌, ◌^◌, Bool, not, ◌&&◌, List, 
 use Rattle.std.specs.Prelude.{nat_eq, sum_by, if◌then◌else◌}
 use Rattle.std.specs.Int.RustNames.{bit_and}
 use Rattle.std.specs.List.{flat_map}
-use Rattle.wasm_tree.specs.Fields.{Field, named, word}
+use Rattle.wasm_output.specs.Fields.{Field, named, word}
 
 -- | the flags of symbols and of segments by their names [`symbol_words`, `segment_words`] <tool conventions, Linking>
 -- flags, each with its bit and its name

@@ -17,7 +17,7 @@ use Rattle.wasm_items.specs.declared.types.GlobalType.{GlobalType}
 use Rattle.wasm_items.specs.declared.types.MemoryType.{MemoryType}
 use Rattle.wasm_items.specs.declared.types.TableType.{TableType}
 use Rattle.wasm_items.specs.declared.types.TagType.{TagType}
-use Rattle.wasm_tree.specs.Fields.{Field, named, number, quoted, word, range, raw, flag, number_if_any}
+use Rattle.wasm_output.specs.Fields.{Field, named, number, quoted, word, range, raw, flag, number_if_any}
 use Rattle.wasm_show.specs.TypeText.{ref_text, val_text, mutable_text}
 
 -- a function that the module defines: the index of its type

@@ -16,7 +16,7 @@ use Rattle.wasm_custom.specs.declared.reloc.RelocationEntry.{RelocationEntry}
 use Rattle.wasm_custom.specs.declared.reloc.RelocationType.{RelocationType}
 use Rattle.wasm_custom.specs.declared.reloc.RelocationType.TheVariants as relocations
 use Rattle.wasm_show.specs.FlagText.{segment_words, symbol_words, words_text}
-use Rattle.wasm_tree.specs.Fields.{Field, named, alone, nothing, number, quoted, signed, word, Value}
+use Rattle.wasm_output.specs.Fields.{Field, named, alone, nothing, number, quoted, signed, word, Value}
 
 abbrev pub quoted_if_any : Option (List ℕ) → Value
 quoted_if_any (Some text) = quoted text

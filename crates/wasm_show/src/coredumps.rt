@@ -1,7 +1,7 @@
 // Texts of core dumps.
 ghost use Rattle.wasm_show.specs.CustomText.{core_value_fields};
-ghost use Rattle.wasm_tree.specs.Said.{SaysFields};
-ghost use Rattle.wasm_tree.specs.Tree.{Adds};
+ghost use Rattle.wasm_output.specs.Said.{SaysFields};
+ghost use Rattle.wasm_output.specs.Tree.{Adds};
 
 use crate::lists::{show_lines, under, write_lines};
 use crate::show::Show;
@@ -9,7 +9,7 @@ use wasm_custom::{
     CoreDumpInstance, CoreDumpInstancesSection, CoreDumpModulesSection, CoreDumpSection,
     CoreDumpStackFrame, CoreDumpStackSection, CoreDumpValue,
 };
-use wasm_tree::Tree;
+use wasm_output::Tree;
 
 impl Show for CoreDumpSection<'_> {
     fn show<O: Tree>(&self, _level: usize, out: &mut O) {

@@ -3,9 +3,9 @@ ghost use Rattle.std.specs.Prelude.{[], ◌∷◌, true};
 ghost use Rattle.wasm_custom.specs.Known.{known_parts};
 ghost use Rattle.wasm_show.specs.CustomText.{feature_fields, hint_fields, prefix_field, value_fields};
 ghost use Rattle.wasm_show.specs.Faults.{FindsFaults, FindsFault, custom_faults, features_faults, known_faults, name_section_faults, producers_faults};
-ghost use Rattle.wasm_tree.specs.Found.{FindsNone};
-ghost use Rattle.wasm_tree.specs.Said.{SaysFields};
-ghost use Rattle.wasm_tree.specs.Tree.{Adds};
+ghost use Rattle.wasm_output.specs.Found.{FindsNone};
+ghost use Rattle.wasm_output.specs.Said.{SaysFields};
+ghost use Rattle.wasm_output.specs.Tree.{Adds};
 
 use crate::linking::{show_dylink, show_linking, show_relocations};
 use crate::lists::{
@@ -19,7 +19,7 @@ use wasm_custom::{
     ProducersField, ProducersFieldValue, ProducersSectionReader, TargetFeature,
     TargetFeaturesSectionReader,
 };
-use wasm_tree::Tree;
+use wasm_output::Tree;
 
 impl Show for BranchHint {
     fn show<O: Tree>(&self, _level: usize, out: &mut O)

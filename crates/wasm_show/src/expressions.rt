@@ -4,14 +4,14 @@ ghost use Rattle.std.specs.Prelude.{◌≡◌, ◌++◌, codes, decimal, false};
 ghost use Rattle.wasm_show.specs.ExprText.{operands_text, operator_text, operator_word as word_of_operator};
 ghost use Rattle.wasm_show.specs.ItemText.{expression_field};
 ghost use Rattle.wasm_show.specs.TypeText.{after_blank};
-ghost use Rattle.wasm_tree.specs.Said.{Says, SaysSome, SaysWith};
-ghost use Rattle.wasm_tree.specs.Tree.{Adds, has_line_feed};
+ghost use Rattle.wasm_output.specs.Said.{Says, SaysSome, SaysWith};
+ghost use Rattle.wasm_output.specs.Tree.{Adds, has_line_feed};
 
 use crate::lists::write_word;
 use crate::show::Show;
 use wasm_base::Result;
 use wasm_items::{ConstExpr, ConstInstruction, ConstOperator};
-use wasm_tree::Tree;
+use wasm_output::Tree;
 
 // Returns the name of an operator.
 fn operator_word(operator: &ConstOperator) -> &'static str

@@ -1,11 +1,11 @@
 // Texts of sets of flags.
 ghost use Rattle.std.specs.Prelude.{◌≡◌, ◌<◌, ◌||◌, ◌^◌, codes, false};
 ghost use Rattle.wasm_show.specs.FlagText.{flag_after, flags_field, has_flag, segment_words, symbol_words, unnamed_after, words_text};
-ghost use Rattle.wasm_tree.specs.Fields.{field_start};
-ghost use Rattle.wasm_tree.specs.Said.{Says, SaysFields};
-ghost use Rattle.wasm_tree.specs.Tree.{Adds, has_line_feed};
+ghost use Rattle.wasm_output.specs.Fields.{field_start};
+ghost use Rattle.wasm_output.specs.Said.{Says, SaysFields};
+ghost use Rattle.wasm_output.specs.Tree.{Adds, has_line_feed};
 
-use wasm_tree::{Style, Tree};
+use wasm_output::{Style, Tree};
 
 // The bits of a symbol's flags that have no name.
 const UNNAMED_OF_SYMBOLS: u32 = 0xffff_fc08;

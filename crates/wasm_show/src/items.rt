@@ -4,10 +4,10 @@ ghost use Rattle.wasm_items.specs.Data.{data_parts};
 ghost use Rattle.wasm_items.specs.Exports.{export_parts};
 ghost use Rattle.wasm_show.specs.ItemText.{data_fields, data_kind_fields, global_fields, table_item_fields};
 ghost use Rattle.wasm_items.specs.Imports.{import_parts};
-ghost use Rattle.wasm_tree.specs.Fields.{field_text};
+ghost use Rattle.wasm_output.specs.Fields.{field_text};
 ghost use Rattle.wasm_show.specs.ItemText.{export_fields, import_fields, kind_field, kind_word as word_of_kind, type_ref_fields};
-ghost use Rattle.wasm_tree.specs.Said.{SaysFields, SaysInBase, SaysWith};
-ghost use Rattle.wasm_tree.specs.Tree.{Adds, has_line_feed};
+ghost use Rattle.wasm_output.specs.Said.{SaysFields, SaysInBase, SaysWith};
+ghost use Rattle.wasm_output.specs.Tree.{Adds, has_line_feed};
 
 use crate::expressions::show_expr;
 use crate::lists::{show_extent, show_list, show_section, under};
@@ -17,7 +17,7 @@ use wasm_items::{
     Data, DataKind, Element, ElementItems, ElementKind, Export, ExternalKind, Global as GlobalItem,
     Import, ImportItemCompact, Imports, Table, TableInit, TypeRef,
 };
-use wasm_tree::Tree;
+use wasm_output::Tree;
 
 // Returns the name of an external kind in the text format.
 fn kind_word(kind: &ExternalKind) -> &'static str

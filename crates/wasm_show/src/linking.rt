@@ -2,10 +2,10 @@
 ghost use Rattle.std.specs.Prelude.{◌≡◌, false};
 ghost use Rattle.wasm_show.specs.CustomText.{mem_info_fields};
 ghost use Rattle.wasm_show.specs.Faults.{FindsFaults, dylink_faults, linking_faults, linking_section_faults, relocations_faults};
-ghost use Rattle.wasm_tree.specs.Found.{FindsNone};
-ghost use Rattle.wasm_tree.specs.Said.{SaysFields};
+ghost use Rattle.wasm_output.specs.Found.{FindsNone};
+ghost use Rattle.wasm_output.specs.Said.{SaysFields};
 ghost use Rattle.wasm_show.specs.SymbolText.{comdat_kind_word, comdat_symbol_fields, export_info_fields, import_info_fields, init_fields, relocation_fields, relocation_type_word, segment_fields};
-ghost use Rattle.wasm_tree.specs.Tree.{Adds, has_line_feed};
+ghost use Rattle.wasm_output.specs.Tree.{Adds, has_line_feed};
 
 use crate::flags::{show_segment_flags, show_symbol_flags};
 use crate::lists::{
@@ -21,7 +21,7 @@ use wasm_custom::{
     ImportInfo, InitFunc, Linking, LinkingSectionReader, MemInfo, RelocSectionReader,
     RelocationEntry, RelocationType, Segment,
 };
-use wasm_tree::{Space, Tree};
+use wasm_output::{Space, Tree};
 
 impl Show for Segment<'_> {
     fn show<O: Tree>(&self, _level: usize, out: &mut O)

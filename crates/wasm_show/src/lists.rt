@@ -5,9 +5,9 @@ ghost use Rattle.wasm_base.specs.FaultAt.{FaultAt};
 ghost use Rattle.wasm_base.specs.Outcome.{Outcome};
 ghost use Rattle.wasm_base.specs.Window.{Place};
 ghost use Rattle.wasm_show.specs.Faults.{FindsFaults, Agrees, FindsFault, FindsItem, no_lists, section_faults, with_offset};
-ghost use Rattle.wasm_tree.specs.Found.{FindsNone};
-ghost use Rattle.wasm_tree.specs.Said.{Says, SaysSome};
-ghost use Rattle.wasm_tree.specs.Tree.{Adds, has_line_feed};
+ghost use Rattle.wasm_output.specs.Found.{FindsNone};
+ghost use Rattle.wasm_output.specs.Said.{Says, SaysSome};
+ghost use Rattle.wasm_output.specs.Tree.{Adds, has_line_feed};
 ghost use Rattle.wasm_show.specs.TypeText.{after_blank};
 
 use crate::names::show_maps;
@@ -18,7 +18,7 @@ use wasm_base::{
 };
 use wasm_custom::{IndirectNameMap, IndirectNaming, Name, NameMap, NameSectionReader, Naming};
 use wasm_items::{Import, IntoImportsWithOffsets};
-use wasm_tree::Tree;
+use wasm_output::Tree;
 
 /// An iterator over items that can be shown.
 ///

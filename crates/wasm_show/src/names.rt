@@ -2,14 +2,14 @@
 ghost use Rattle.std.specs.Prelude.{◌≡◌, false};
 ghost use Rattle.wasm_show.specs.CustomText.{naming_fields};
 ghost use Rattle.wasm_show.specs.Faults.{FindsFaults, name_faults};
-ghost use Rattle.wasm_tree.specs.Said.{SaysFields};
-ghost use Rattle.wasm_tree.specs.Tree.{Adds, has_line_feed};
+ghost use Rattle.wasm_output.specs.Said.{SaysFields};
+ghost use Rattle.wasm_output.specs.Tree.{Adds, has_line_feed};
 
 use crate::lists::{show_items, under};
 use crate::show::Show;
 use std::ops::Range;
 use wasm_custom::{IndirectNameMap, IndirectNaming, Name, NameMap, Naming};
-use wasm_tree::Tree;
+use wasm_output::Tree;
 
 impl Show for Naming<'_> {
     fn show<O: Tree>(&self, _level: usize, out: &mut O)

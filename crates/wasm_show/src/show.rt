@@ -1,9 +1,9 @@
 // The traits of what can be shown.
 ghost use Rattle.wasm_show.specs.ItemText.{index_fields};
-ghost use Rattle.wasm_tree.specs.Said.{Says, SaysFields};
-ghost use Rattle.wasm_tree.specs.Tree.{Adds};
+ghost use Rattle.wasm_output.specs.Said.{Says, SaysFields};
+ghost use Rattle.wasm_output.specs.Tree.{Adds};
 
-use wasm_tree::Tree;
+use wasm_output::Tree;
 
 /// An item whose fields can be written on a tree.
 ///

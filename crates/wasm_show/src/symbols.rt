@@ -3,8 +3,8 @@ ghost use Rattle.std.specs.Prelude.{◌≡◌, [], ◌∷◌, false};
 ghost use Rattle.wasm_custom.specs.Linking.{symbol_at, text_if_any};
 ghost use Rattle.wasm_show.specs.Faults.{FindsFaults, plainly, section_faults};
 ghost use Rattle.wasm_show.specs.SymbolText.{data_symbol_fields, defined_fields, indexed_fields, section_symbol_fields, symbol_fields, symbol_number};
-ghost use Rattle.wasm_tree.specs.Said.{SaysFields};
-ghost use Rattle.wasm_tree.specs.Tree.{Adds, has_line_feed};
+ghost use Rattle.wasm_output.specs.Said.{SaysFields};
+ghost use Rattle.wasm_output.specs.Tree.{Adds, has_line_feed};
 
 use crate::flags::show_symbol_flags;
 use crate::lists::{Items, show_items};
@@ -12,7 +12,7 @@ use crate::show::Show;
 use bitflags::Flags;
 use wasm_base::{Result, SectionLimitedIntoIterWithOffsets};
 use wasm_custom::{DefinedDataSymbol, SymbolInfo, SymbolInfoMap};
-use wasm_tree::{Space, Style, Tree};
+use wasm_output::{Space, Style, Tree};
 
 // Writes a symbol that has an index and perhaps a name.
 fn show_indexed<O: Tree>(kind: &str, flags: u32, index: u32, name: &Option<&str>, out: &mut O)

@@ -1,9 +1,9 @@
 // Texts of types, in the standard's words.
 ghost use Rattle.std.specs.Prelude.{◌≡◌, false};
-ghost use Rattle.wasm_tree.specs.Fields.{field_text, named, word};
+ghost use Rattle.wasm_output.specs.Fields.{field_text, named, word};
 ghost use Rattle.wasm_show.specs.ItemText.{global_type_fields, memory_fields, table_fields, tag_fields};
-ghost use Rattle.wasm_tree.specs.Said.{Says, SaysFields, SaysInBase};
-ghost use Rattle.wasm_tree.specs.Tree.{Adds, has_line_feed};
+ghost use Rattle.wasm_output.specs.Said.{Says, SaysFields, SaysInBase};
+ghost use Rattle.wasm_output.specs.Tree.{Adds, has_line_feed};
 ghost use Rattle.wasm_show.specs.TypeText.{array_text, heap_word as word_of_heap, mutable_text, ref_start as start_of_ref, struct_text};
 ghost use Rattle.wasm_show.specs.TypeText.{is_plain as is_plain_type, sub_start as start_of_sub, supertype_text, types_text, val_text};
 
@@ -13,7 +13,7 @@ use wasm_items::{
     CompositeType, FieldType, FuncType, GlobalType, HeapType, MemoryType, RecGroup, RefType,
     StorageType, SubType, TableType, TagKind, TagType, ValType,
 };
-use wasm_tree::Tree;
+use wasm_output::Tree;
 
 // Returns the name of an abstract heap type in the text format.
 fn heap_word(heap: &HeapType) -> &'static str

@@ -20,9 +20,9 @@ pub use Rattle.wasm_frames.specs.Along.{Came, is_last, ReadingBegins}
 pub use Rattle.wasm_frames.specs.Answer.{GivesAnswer, IsRequest}
 pub use Rattle.wasm_frames.specs.Answer.{is_end}
 pub use Rattle.wasm_frames.specs.ParserState.{ParserState, grammar_of}
-pub use Rattle.wasm_text.specs.Page.{IsCut, PutsBytes, WritesHead}
-pub use Rattle.wasm_text.specs.declared.devices.ListError.{ListError}
-pub use Rattle.wasm_text.specs.declared.devices.ListError.TheVariants.{Input}
+pub use Rattle.wasm_io.specs.Page.{IsCut, PutsBytes, WritesHead}
+pub use Rattle.wasm_io.specs.declared.devices.ListError.{ListError}
+pub use Rattle.wasm_io.specs.declared.devices.ListError.TheVariants.{Input}
 pub use Rattle.wasm_streams.specs.Beside.{beside, seen, lending, MovesOver, FillsAlike}
 pub use Rattle.wasm_streams.specs.Cursors.{feed_of}
 pub use Rattle.wasm_streams.specs.Feed.{Feed, new_feed, pushed, finished, end_of}

@@ -9,8 +9,8 @@ use Rattle.wasm_streams.specs.Lists.{IsListed, Begins, IsHead, Refills, ListsBy,
 use Rattle.wasm_streams.specs.Progress.{Progress, Wants}
 use Rattle.wasm_streams.specs.Turns.{text_after}
 use Rattle.wasm_grammar.specs.Reading.{Report, stream_end}
-use Rattle.wasm_text.specs.Calls.{Change, from_to}
-use Rattle.wasm_text.specs.declared.devices.ListError.TheVariants.{Output, Memory}
+use Rattle.wasm_io.specs.Calls.{Change, from_to}
+use Rattle.wasm_io.specs.declared.devices.ListError.TheVariants.{Output, Memory}
 use Rattle.wasm_streams.proofs.PassedParts.{head_after, head_of_cut, head_of_puts, puts_more, puts_out}
 use Rattle.wasm_streams.proofs.Reached.{AtEnd, IsEnding, IsEvent, all_given, begins_with, next_ends, whole_input}
 use Rattle.wasm_streams.specs.declared.turns.Turn.TheVariants as turn

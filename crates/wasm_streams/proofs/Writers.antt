@@ -7,8 +7,8 @@ use Rattle.wasm_streams.specs.Progress.{Progress, Wants}
 use Rattle.wasm_streams.specs.Visits.{MayBegin, Met, MeetsRequest, since}
 use Rattle.wasm_streams.specs.Writers.{Runs, Writer, writer_stages}
 use Rattle.wasm_base.specs.Features.{all_features}
-use Rattle.wasm_text.specs.Calls.{Change, Device, bytes_of, device_of, from_to, input_failed, output_failed}
-use Rattle.wasm_text.specs.declared.devices.ListError.TheVariants.{Memory, Output}
+use Rattle.wasm_io.specs.Calls.{Change, Device, bytes_of, device_of, from_to, input_failed, output_failed}
+use Rattle.wasm_io.specs.declared.devices.ListError.TheVariants.{Memory, Output}
 use Rattle.wasm_streams.proofs.Progress.{begun, wanted}
 use Rattle.wasm_streams.proofs.Reached.{nothing_read}
 

@@ -10,8 +10,8 @@ use Rattle.wasm_streams.specs.Cursors.{feed_of}
 use Rattle.wasm_streams.specs.Feed.{Feed, pushed, finished, end_of}
 use Rattle.wasm_streams.specs.Lists.{Refills}
 use Rattle.wasm_streams.specs.Step.{Told, answer_of, is_request, Moves}
-use Rattle.wasm_text.specs.declared.devices.Failed.{Failed}
-use Rattle.wasm_text.specs.declared.devices.ListError.{ListError}
+use Rattle.wasm_io.specs.declared.devices.Failed.{Failed}
+use Rattle.wasm_io.specs.declared.devices.ListError.{ListError}
 use Rattle.wasm_streams.specs.declared.cursor.Cursor.{Cursor}
 
 -- | a feeder next to a chunk, as one that holds both; what a step reads of them, and what is enough for it; a step

@@ -9,12 +9,12 @@ use Rattle.wasm_grammar.specs.Content.{Ending, fault, ended}
 use Rattle.wasm_grammar.specs.EventRanges.{consumed_by}
 use Rattle.wasm_grammar.specs.Reading.{Report, Event, last_event, Reading}
 use Rattle.wasm_frames.specs.Along.{ReadingBegins}
-use Rattle.wasm_text.specs.Calls.{Change}
+use Rattle.wasm_io.specs.Calls.{Change}
 use Rattle.wasm_streams.specs.Feed.{Feed, pushed, finished}
 use Rattle.wasm_streams.specs.declared.turns.Ended.{Ended}
 use Rattle.wasm_streams.specs.declared.turns.Ended.TheVariants.{End, Fault}
-use Rattle.wasm_text.specs.declared.devices.ListError.{ListError}
-use Rattle.wasm_text.specs.declared.devices.ListError.TheVariants.{Input, Output, Memory}
+use Rattle.wasm_io.specs.declared.devices.ListError.{ListError}
+use Rattle.wasm_io.specs.declared.devices.ListError.TheVariants.{Input, Output, Memory}
 use Rattle.wasm_base.specs.Features.{all_features}
 
 -- events by such lines: the text of each, by what it reports

@@ -5,9 +5,9 @@ use Rattle.std.specs.Io.KnownBytes.{Consumes, IsAtEnd, Keeps}
 use Rattle.wasm_base.specs.FaultAt.{fault_at, at_offset}
 use Rattle.wasm_base.specs.declared.error.Error.{Error}
 use Rattle.wasm_base.specs.declared.fault.Fault.TheVariants.{UnexpectedEof}
-use Rattle.wasm_text.specs.Page.{IsCut, PutsBytes, WritesHead}
-use Rattle.wasm_text.specs.declared.devices.ListError.{ListError}
-use Rattle.wasm_text.specs.declared.devices.ListError.TheVariants.{Input}
+use Rattle.wasm_io.specs.Page.{IsCut, PutsBytes, WritesHead}
+use Rattle.wasm_io.specs.declared.devices.ListError.{ListError}
+use Rattle.wasm_io.specs.declared.devices.ListError.TheVariants.{Input}
 use Rattle.wasm_frames.specs.SkipNext.{Head, Skip, SkipsPart, skip_of}
 use Rattle.wasm_streams.specs.Beside.{seen, unseen}
 use Rattle.wasm_streams.specs.declared.cursor.Cursor.{Cursor}

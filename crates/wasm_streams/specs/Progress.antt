@@ -6,9 +6,9 @@ use Rattle.wasm_frames.specs.Along.{Along}
 use Rattle.wasm_frames.specs.GivesNextEvent.{IsUndecided}
 use Rattle.wasm_grammar.specs.Reading.{Report, Event}
 use Rattle.wasm_base.specs.declared.error.Error.{Error}
-use Rattle.wasm_text.specs.Calls.{Change, from_to}
-use Rattle.wasm_text.specs.Page.{PutsBytes}
-use Rattle.wasm_text.specs.declared.devices.ListError.{ListError}
+use Rattle.wasm_io.specs.Calls.{Change, from_to}
+use Rattle.wasm_io.specs.Page.{PutsBytes}
+use Rattle.wasm_io.specs.declared.devices.ListError.{ListError}
 use Rattle.wasm_streams.specs.Feed.{Feed}
 use Rattle.wasm_streams.specs.Lists.{IsListed, ListsBy, listing_by}
 use Rattle.wasm_streams.specs.declared.turns.Ended.TheVariants.{Fault}

@@ -10,8 +10,8 @@ use Rattle.wasm_streams.specs.declared.turns.Ended.{Ended}
 use Rattle.wasm_streams.specs.declared.turns.Ended.TheVariants.{Fault}
 use Rattle.wasm_streams.specs.declared.turns.Turn.{Turn}
 use Rattle.wasm_streams.specs.declared.turns.Turn.TheVariants as turn
-use Rattle.wasm_text.specs.Calls.{Device}
-use Rattle.wasm_text.specs.declared.devices.ListError.{ListError}
+use Rattle.wasm_io.specs.Calls.{Device}
+use Rattle.wasm_io.specs.declared.devices.ListError.{ListError}
 
 -- | what a visitor of a stream says of itself at each stage of a run, what it promises of each turn in these terms, and
 --   where a run may begin [`Stages`, `TakesStep`, `MeetsRequest`, `Finishes`, `GivesOut`, `MayBegin`]

@@ -6,9 +6,9 @@ use Rattle.wasm_streams.specs.Progress.{Progress}
 use Rattle.wasm_streams.specs.Visits.{Stages}
 use Rattle.wasm_streams.specs.declared.turns.Ended.{Ended}
 use Rattle.wasm_grammar.specs.Reading.{Event}
-use Rattle.wasm_text.specs.Calls.{Change, Device, bytes_of, device_of, from_to, input_failed, output_failed}
-use Rattle.wasm_text.specs.Page.{IsCut}
-use Rattle.wasm_text.specs.declared.devices.ListError.{ListError}
+use Rattle.wasm_io.specs.Calls.{Change, Device, bytes_of, device_of, from_to, input_failed, output_failed}
+use Rattle.wasm_io.specs.Page.{IsCut}
+use Rattle.wasm_io.specs.declared.devices.ListError.{ListError}
 
 -- | a visitor that puts a text of the events on a page, what is so of it at each stage of a run, and what the run did
 --   to its devices [`Writer`, `writer_stages`, `Runs`]

@@ -4,8 +4,8 @@ ghost use Rattle.wasm_frames.specs.ParserState.{grammar_of};
 ghost use Rattle.wasm_grammar.specs.Waiting.{enough, waiting};
 ghost use Rattle.wasm_streams.specs.Beside.{beside, lending, Fetches, ReadsEnough, RefillsAlike, seen, AreEnough, Gathers, MakesReady};
 ghost use Rattle.wasm_streams.specs.Cursors.{feed_of};
-ghost use Rattle.wasm_text.specs.Calls.{input_failed};
-ghost use Rattle.wasm_text.specs.declared.devices.ListError.TheVariants.{Memory};
+ghost use Rattle.wasm_io.specs.Calls.{input_failed};
+ghost use Rattle.wasm_io.specs.declared.devices.ListError.TheVariants.{Memory};
 
 use crate::buffer::{drop_front, make_room, put};
 use crate::cursor::Cursor;
@@ -15,7 +15,7 @@ use std::marker::Model;
 use wasm_base::fits;
 use wasm_frames::NextFrame;
 use wasm_frames::laws::answers_last;
-use wasm_text::{Failed, ListError, Source};
+use wasm_io::{Failed, ListError, Source};
 
 /// A chunk of at most this many bytes is stored whole after bytes that are held: copying it costs less than asking the
 /// parser how many bytes are missing.

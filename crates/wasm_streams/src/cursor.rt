@@ -6,14 +6,14 @@ ghost use Rattle.wasm_streams.specs.Cursors.{feed_of, finished_cursor};
 ghost use Rattle.wasm_streams.specs.Feed.{empty_feed, pushed};
 ghost use Rattle.wasm_streams.specs.Lists.{Refills};
 ghost use Rattle.wasm_streams.specs.Step.{StepsAt, says};
-ghost use Rattle.wasm_text.specs.Calls.{input_failed};
+ghost use Rattle.wasm_io.specs.Calls.{input_failed};
 
 use crate::buffer::{after, append};
 use crate::parser::FrameParser;
 use std::alloc::{AllocError, Allocator};
 use wasm_base::Error;
 use wasm_frames::{Frame, NextFrame, SkippedPart, StoredParser};
-use wasm_text::{ListError, Source};
+use wasm_io::{ListError, Source};
 
 /// The result of one step over a stream in chunks: a frame, a request for more input, or the fault at which the stream
 /// stops.

@@ -5,7 +5,7 @@ ghost use Rattle.wasm_streams.specs.Ends.{fault_at_end};
 ghost use Rattle.wasm_streams.specs.FeedersLaws.{FeedersGoAlong, FeedersWait};
 
 use crate::turns::Ended;
-use wasm_text::{Failed, ListError};
+use wasm_io::{Failed, ListError};
 
 /// A feeder's place in the stream follows from the bytes it received, whatever calls are made and in any order. A new
 /// one has received nothing, and a chunk adds to what it received. A step, over a chunk too, is the next event of every

@@ -1,16 +1,16 @@
 // A part that is forwarded or dropped chunk by chunk, after its first fields.
 ghost use Rattle.std.specs.Prelude.{◌≡◌, ◌<◌, ◌++◌, [], true, drop, length, IfErr, IfOk, OnErr};
-ghost use Rattle.wasm_text.specs.Calls.{input_failed, output_failed};
+ghost use Rattle.wasm_io.specs.Calls.{input_failed, output_failed};
 ghost use Rattle.wasm_streams.specs.Beside.{seen};
-ghost use Rattle.wasm_text.specs.Page.{IsCut, PutsBytes};
-ghost use Rattle.wasm_text.specs.declared.devices.ListError.TheVariants.{Input};
+ghost use Rattle.wasm_io.specs.Page.{IsCut, PutsBytes};
+ghost use Rattle.wasm_io.specs.declared.devices.ListError.TheVariants.{Input};
 ghost use Rattle.wasm_streams.specs.Passing.{FillsChunk, GivesUp, SettlesNot, PassesMissing, PassesPart, PutsAll, Settles, TakesSome, held_by, if_stays};
 
 use crate::ahead::Ahead;
 use crate::cursor::Cursor;
 use std::alloc::Allocator;
 use wasm_base::{Error, Fault};
-use wasm_text::{ListError, Page, Sink, Source, write_all};
+use wasm_io::{ListError, Page, Sink, Source, write_all};
 
 /// More bytes than this are written at once, and not put on the page.
 const LARGE: usize = 16_384;

@@ -4,7 +4,7 @@ ghost use Rattle.wasm_streams.specs.Beside.{beside, lending};
 ghost use Rattle.wasm_streams.specs.Cursors.{feed_of};
 ghost use Rattle.wasm_streams.specs.Step.{Part, Stop};
 ghost use Rattle.wasm_streams.specs.Visits.{Finishes, GivesOut, MayBegin, MeetsRequest, Stages, TakesStep};
-ghost use Rattle.wasm_text.specs.Calls.{device_of};
+ghost use Rattle.wasm_io.specs.Calls.{device_of};
 
 use crate::ahead::{Ahead, seen};
 use crate::cursor::{Cursor, FrameStep, next_frame_for};
@@ -12,7 +12,7 @@ use crate::turns::{Ended, is_end};
 use std::alloc::Allocator;
 use wasm_base::Error;
 use wasm_frames::{Frame, StoredParser};
-use wasm_text::{ListError, Source};
+use wasm_io::{ListError, Source};
 
 /// What is made of the parts of a stream.
 ///

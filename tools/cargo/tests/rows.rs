@@ -1,4 +1,4 @@
-//! The rows of `crates/wasm_rows/stdin`, read by the erased program, give the lines of `stdout`.
+//! The rows of `crates/test_rows/stdin`, read by the erased program, give the lines of `stdout`.
 //!
 //! The test runs itself as this program, since the program writes to standard output.
 use std::env;
@@ -12,7 +12,7 @@ fn main() -> ExitCode {
     if env::var_os(IS_PROGRAM).is_some() {
         return pulleynavy_program::rows::main();
     }
-    let folder = Path::new(env!("CARGO_MANIFEST_DIR")).join("crates/wasm_rows");
+    let folder = Path::new(env!("CARGO_MANIFEST_DIR")).join("crates/test_rows");
     let rows = fs::File::open(folder.join("stdin")).expect("the rows");
     let program = env::current_exe().expect("this program");
     let done = Command::new(program).env(IS_PROGRAM, "1").stdin(rows).stderr(Stdio::inherit()).output().expect("a run");

@@ -81,7 +81,7 @@ impl Sources {
     fn seen(&self, name: &str) -> Result<Vec<String>, Fault> {
         let libraries = self.uses.iter().find(|(of, _)| of == name).map_or(&[][..], |(_, libraries)| libraries);
         let mut seen = vec![module_of(name).to_string()];
-        seen.extend(libraries.iter().filter(|library| *library != "wasm_testing").map(|library| module_of(library).to_string()));
+        seen.extend(libraries.iter().filter(|library| *library != "test_devices").map(|library| module_of(library).to_string()));
         for (other, _) in &self.uses {
             let root = self.folder(other).join("lib.rt");
             if root.exists() && read(&root)?.contains(&format!("pub use {name}::")) {

@@ -13,7 +13,7 @@ use std::process::Abort;
 use std::test::Fail;
 use system::Files;
 use wasm_commands::run;
-use wasm_feed::{BoundedSink, Sink, WriteSink};
+use wasm_io::{BoundedSink, Sink, WriteSink};
 
 /// A module with one function of type 5, and a custom section called `type`.
 pub(super) const MODULE: &[u8] =

@@ -6,7 +6,7 @@ use std::io::{self, ErrorKind, Write};
 use std::process::Abort;
 use std::test::Fail;
 use wasm_commands::{Messages, Noting};
-use wasm_feed::{Sink, WriteSink, write_all};
+use wasm_io::{Sink, WriteSink, write_all};
 
 // A writer that fails for a reason, or takes all bytes.
 #[derive(Drop)]

@@ -1,4 +1,4 @@
-// Faults, the calls of a reader, and sections by the calls that read them. Tables of rows are in `wasm_rows`.
+// Faults, the calls of a reader, and sections by the calls that read them. Tables of rows are in `test_rows`.
 mod checks;
 mod errors;
 mod limits;

@@ -1,4 +1,4 @@
-// Custom sections by the calls that read them. Tables of rows are in `wasm_rows`.
+// Custom sections by the calls that read them. Tables of rows are in `test_rows`.
 mod dylink;
 mod linking;
 mod memory;

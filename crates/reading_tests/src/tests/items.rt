@@ -1,4 +1,4 @@
-// Items by the calls that read them, and as values. Tables of rows are in `wasm_rows`.
+// Items by the calls that read them, and as values. Tables of rows are in `test_rows`.
 mod heads;
 mod imports;
 mod instructions;

@@ -1,4 +1,4 @@
-// The parser by its calls, and payloads by their fields. Tables of rows are in `wasm_rows`.
+// The parser by its calls, and payloads by their fields. Tables of rows are in `test_rows`.
 mod calls;
 mod debug;
 mod frames;

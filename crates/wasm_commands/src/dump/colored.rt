@@ -6,7 +6,7 @@ ghost use Rattle.wasm_commands.specs.Colors.{plain, without_colors};
 use super::gathered::{Run, gather};
 use super::inks::{Spot, sequence};
 use super::plain::{ESC, count_plain};
-use wasm_feed::{Failed, Sink, write_all};
+use wasm_io::{Failed, Sink, write_all};
 
 /// A sink that forwards text to another one, with escape sequences between the bytes that set colors, or without.
 ///

@@ -8,7 +8,7 @@ ghost use Rattle.wasm_commands.specs.declared.options.Flag.TheVariants as option
 use crate::arguments::Arguments;
 use crate::messages::Complaint;
 use crate::options::{Flag, Verb};
-use wasm_text::Base;
+use wasm_io::Base;
 
 /// The format of a dump, and what it shows besides the items.
 ///

@@ -9,7 +9,7 @@ use super::plain::ESC;
 const ROOM: usize = 4096;
 
 /// Text with escape sequences, to be written at once.
-pub(super) type Gathered = wasm_tree::Gathered<ROOM>;
+pub(super) type Gathered = wasm_output::Gathered<ROOM>;
 
 // Appends a byte, after a sequence for its color if that differs from the color of the byte before it.
 fn put_byte(gathered: &mut Gathered, last: Ink, ink: Ink, byte: u8)

@@ -4,7 +4,7 @@ ghost use Rattle.std.specs.Io.KnownBytes.{Keeps};
 ghost use Rattle.wasm_commands.specs.Colors.{seen_as};
 ghost use Rattle.wasm_commands.specs.DumpRuns.{DumpsAs, Flushes, RunsDump};
 ghost use Rattle.wasm_commands.specs.Formats.{has_colors};
-ghost use Rattle.wasm_text.specs.Calls.{device_of, writer_device};
+ghost use Rattle.wasm_io.specs.Calls.{device_of, writer_device};
 
 use super::colored::Colored;
 use super::format::Format;
@@ -12,8 +12,9 @@ use std::alloc::Global;
 use std::io::Write;
 use wasm_console::PIECE;
 use wasm_dumper::{Shown, dump};
-use wasm_feed::{Ended, ListError, Source, WriteSink};
-use wasm_tree::{ItemNames, Objects, TextLines};
+use wasm_io::{ListError, Source, WriteSink};
+use wasm_output::{ItemNames, Objects, TextLines};
+use wasm_streams::Ended;
 
 /// What a dump says of an input besides its bytes.
 #[derive(Drop)]

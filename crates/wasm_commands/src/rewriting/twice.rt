@@ -2,12 +2,14 @@
 ghost use Rattle.std.specs.Prelude.{All};
 ghost use Rattle.wasm_commands.specs.EditsTwice.{EditsTwice};
 ghost use Rattle.wasm_edits.specs.Edits.{CanBeMade};
-ghost use Rattle.wasm_text.specs.Calls.{device_of};
+ghost use Rattle.wasm_io.specs.Calls.{device_of};
 
 use std::alloc::Global;
 use std::io;
 use wasm_console::PIECE;
-use wasm_feed::{Edit, Ended, ListError, Sink, Source, edit_stream};
+use wasm_edits::{Edit, edit_stream};
+use wasm_io::{ListError, Sink, Source};
+use wasm_streams::Ended;
 
 /// Reads a stream from `first` to its end. If it has no fault, reads it again from `second` and writes it with the edits.
 /// Returns how the stream ended.

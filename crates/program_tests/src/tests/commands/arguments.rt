@@ -7,7 +7,7 @@ use std::io;
 use std::process::{Abort, ExitCode};
 use std::test::Fail;
 use wasm_commands::run_program;
-use wasm_feed::{BoundedSink, WriteSink};
+use wasm_io::{BoundedSink, WriteSink};
 
 #[test]
 fn refuses_other_commands(rt: HostRuntime) -> Result<(), Fail> {

@@ -6,7 +6,7 @@ use std::io::{self, Write};
 use std::process::Abort;
 use std::test::Fail;
 use wasm_commands::run;
-use wasm_feed::{BoundedSink, WriteSink};
+use wasm_io::{BoundedSink, WriteSink};
 
 const DUMP: &[u8] = b"version 0 8 1 module
 section 3 10 12 1 function

@@ -5,7 +5,7 @@ use std::alloc::Global;
 use std::io::{self, ErrorKind, Write};
 use std::test::Fail;
 use wasm_commands::run;
-use wasm_feed::{BoundedSink, WriteSink};
+use wasm_io::{BoundedSink, WriteSink};
 
 // A module with two custom sections, a type section between them.
 const STREAM: &[u8] = b"\0asm\x01\0\0\0\0\x02\x01a\x01\x01\0\0\x03\x01bB";

@@ -4,7 +4,7 @@ use super::{MODULE, run_over, runs, words_of};
 use std::alloc::Global;
 use std::process::Abort;
 use std::test::Fail;
-use wasm_feed::BoundedSink;
+use wasm_io::BoundedSink;
 
 const VERSION: &[u8] = b"pulleynavy 0.16.0 (follows wasmparser 0.263.0)\n";
 

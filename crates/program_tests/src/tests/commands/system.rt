@@ -5,7 +5,7 @@ use std::alloc::Global;
 use std::cell::Cell;
 use std::io::{self, ErrorKind, Read};
 use wasm_commands::{Cause, Causes, System};
-use wasm_feed::{BoundedSink, ReadSource};
+use wasm_io::{BoundedSink, ReadSource};
 
 /// A file by its name, and whether it can be read twice.
 #[derive(Clone, Copy)]

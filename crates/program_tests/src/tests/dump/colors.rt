@@ -3,7 +3,7 @@ use crate::tests::same_at;
 use std::alloc::Global;
 use std::test::Fail;
 use wasm_commands::Colored;
-use wasm_feed::{BoundedSink, Failed, Sink, write_all};
+use wasm_io::{BoundedSink, Failed, Sink, write_all};
 
 // What a sink with room for this many bytes has after this text was written through colors, and whether all was.
 fn written(alloc: Global, room: usize, text: &[u8]) -> Result<(BoundedSink, bool), Fail> {

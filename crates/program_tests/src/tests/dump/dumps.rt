@@ -5,11 +5,12 @@ mod worked;
 use std::alloc::Global;
 use std::process::Abort;
 use std::test::Fail;
+use test_devices::Measuring;
 use wasm_dumper::{Only, Shown, dump};
-use wasm_feed::{BoundedSink, Ended, Failed, ListError, SliceSource, Source};
+use wasm_io::{BoundedSink, Failed, ListError, SliceSource, Source};
+use wasm_output::TextLines;
 use wasm_parser::{Error, Fault};
-use wasm_testing::Measuring;
-use wasm_tree::TextLines;
+use wasm_streams::Ended;
 
 /// A module with an item in each of its sections, and names that don't ascend.
 const MODULE: &[u8] =

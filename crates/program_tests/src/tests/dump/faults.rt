@@ -3,9 +3,10 @@ use std::alloc::Global;
 use std::process::Abort;
 use std::test::Fail;
 use wasm_dumper::{Only, Shown, dump};
-use wasm_feed::{BoundedSink, Ended, ListError, SliceSource};
+use wasm_io::{BoundedSink, ListError, SliceSource};
+use wasm_output::{Faults, Tree, Within};
 use wasm_parser::{Error, Fault};
-use wasm_tree::{Faults, Tree, Within};
+use wasm_streams::Ended;
 
 // What is asked for: the sections, the beginning of each line, and whether nothing is written.
 #[derive(Clone, Copy)]

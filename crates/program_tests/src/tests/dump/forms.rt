@@ -4,8 +4,8 @@ use crate::tests::commands::{MODULE, runs};
 use std::alloc::Global;
 use std::process::Abort;
 use std::test::Fail;
-use wasm_feed::BoundedSink;
-use wasm_tree::{TextLines, Tree};
+use wasm_io::BoundedSink;
+use wasm_output::{TextLines, Tree};
 
 // Names with a quote, a backslash, a line feed, a control character, and a character outside of ASCII.
 const NAMES: &[u8] = b"\0asm\x01\0\0\0\x07\x0f\x02\x03a\"b\0\x00\x05\\\x0a\x01\xc3\xa9\x03\x00";

@@ -4,7 +4,7 @@ use std::alloc::Global;
 use std::process::Abort;
 use std::test::Fail;
 use wasm_dumper::Only;
-use wasm_feed::Ended;
+use wasm_streams::Ended;
 
 /// A module.
 const MODULE_1: &[u8] = b"\0asm\x01\0\0\0\x06\x03\x01\0\xff";

@@ -5,8 +5,8 @@ use std::process::Abort;
 use std::test::Fail;
 use wasm_commands::{Format, Titles, dump_as};
 use wasm_dumper::{Only, Shown};
-use wasm_feed::{SliceSource, WriteSink};
-use wasm_tree::ItemNames;
+use wasm_io::{SliceSource, WriteSink};
+use wasm_output::ItemNames;
 
 /// A form of a dump.
 #[derive(Clone, Copy)]

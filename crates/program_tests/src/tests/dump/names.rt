@@ -3,9 +3,9 @@ use super::named::{self, Form};
 use std::alloc::Global;
 use std::test::Fail;
 use wasm_dumper::{Only, Shown, collect_names, dump};
-use wasm_feed::{BoundedSink, Ended, ListError, Sink, SliceSource};
-use wasm_text::Base;
-use wasm_tree::{ItemNames, TextLines};
+use wasm_io::{Base, BoundedSink, ListError, Sink, SliceSource};
+use wasm_output::{ItemNames, TextLines};
+use wasm_streams::Ended;
 
 // The linked module of docs/DUMP.md, whose bodies are filled with a byte.
 const LINKED: &[u8] =

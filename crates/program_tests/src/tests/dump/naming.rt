@@ -2,9 +2,9 @@
 use std::alloc::{Allocator, Global};
 use std::process::Abort;
 use std::test::Fail;
-use wasm_feed::ListError;
-use wasm_testing::Sparing;
-use wasm_tree::{ItemNames, Space};
+use test_devices::Sparing;
+use wasm_io::ListError;
+use wasm_output::{ItemNames, Space};
 
 const SPACES: [Space; 9] = [
     Space::Types,

@@ -6,10 +6,10 @@ use std::cell::Cell;
 use std::process::Abort;
 use std::test::Fail;
 use wasm_dumper::{Only, Shown, dump};
-use wasm_feed::{BoundedSink, Ended, Failed, ListError, SliceSource, Source};
+use wasm_io::{Base, BoundedSink, Failed, ListError, SliceSource, Source};
+use wasm_output::{Faults, ItemNames, Objects, Space, TextLines};
 use wasm_parser::{Error, Fault};
-use wasm_text::Base;
-use wasm_tree::{Faults, ItemNames, Objects, Space, TextLines};
+use wasm_streams::Ended;
 
 /// An imported function, two custom sections in turn, a function with its body, and a custom section whose name is a quote.
 const STREAM: &[u8] =

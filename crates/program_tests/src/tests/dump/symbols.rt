@@ -6,8 +6,8 @@ use std::alloc::Global;
 use std::process::Abort;
 use std::test::Fail;
 use wasm_dumper::Only;
-use wasm_feed::Ended;
-use wasm_tree::Space;
+use wasm_output::Space;
+use wasm_streams::Ended;
 
 /// An imported function without a name of its own, a function of the module, data of another module, and a section.
 const OBJECT: &[u8] =

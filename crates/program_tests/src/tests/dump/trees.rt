@@ -1,13 +1,13 @@
 // What trees write at the lengths where the way to write it changes.
 ghost use Rattle.std.specs.Prelude.{◌≡◌};
-ghost use Rattle.wasm_tree.specs.Tree.{has_line_feed};
+ghost use Rattle.wasm_output.specs.Tree.{has_line_feed};
 
 use crate::tests::same_at;
 use std::alloc::Global;
 use std::process::Abort;
 use std::test::Fail;
-use wasm_feed::BoundedSink;
-use wasm_tree::{Objects, TextLines, Tree};
+use wasm_io::BoundedSink;
+use wasm_output::{Objects, TextLines, Tree};
 
 // Bytes that are escaped, the escape in lines, and the one in JSON.
 const ESCAPES: [(&'static str, &'static str, &'static str); 4] = [

@@ -4,8 +4,8 @@ ghost use Rattle.std.specs.Prelude.{◌<◌, ◌^◌, length};
 use crate::tests::{same, same_at, window};
 use std::alloc::Global;
 use std::process::Abort;
+use test_devices::Sparing;
 use wasm_base::{BinaryReader, Error, Fault, FromReader, NumberKind, read_list};
-use wasm_testing::Sparing;
 
 // More blocks than the list takes.
 const AMPLE: u64 = 40;

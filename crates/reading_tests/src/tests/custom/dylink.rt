@@ -1,4 +1,4 @@
-// What dynamic linkers read, by the debug texts of what is read. Tables of rows are in `wasm_rows`.
+// What dynamic linkers read, by the debug texts of what is read. Tables of rows are in `test_rows`.
 use crate::tests::{gives, prints_begun, window};
 use wasm_custom::{Dylink0SectionReader, Dylink0Subsection};
 

@@ -1,4 +1,4 @@
-// Symbols, comdats, subsections for linkers, and relocations by the calls that read them. Tables of rows are in `wasm_rows`.
+// Symbols, comdats, subsections for linkers, and relocations by the calls that read them. Tables of rows are in `test_rows`.
 use crate::tests::{gives, prints, prints_begun, same, window};
 use bitflags::Flags;
 use std::ops::Range;

@@ -5,9 +5,9 @@ use crate::tests::{same, same_at, window};
 use std::alloc::{Allocator, Global};
 use std::process::Abort;
 use std::test::Fail;
+use test_devices::Sparing;
 use wasm_base::{BinaryReader, Error, Fault, Result, Subsection};
 use wasm_custom::{CustomSectionReader, Dylink0Subsection, KnownCustom};
-use wasm_testing::Sparing;
 
 /// More blocks than any of the sections takes.
 const AMPLE: u64 = 40;

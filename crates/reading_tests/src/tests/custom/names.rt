@@ -1,4 +1,4 @@
-// Names by the calls that read them. Tables of rows are in `wasm_rows`.
+// Names by the calls that read them. Tables of rows are in `test_rows`.
 use crate::tests::{gives, same, window};
 use std::alloc::Global;
 use std::ops::Range;

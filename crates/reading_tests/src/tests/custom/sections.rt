@@ -1,4 +1,4 @@
-// Branch hints, producers, target features and core dumps by the calls that read them. Tables of rows are in `wasm_rows`.
+// Branch hints, producers, target features and core dumps by the calls that read them. Tables of rows are in `test_rows`.
 use crate::tests::{gives, is_printed, prints, prints_in, same, window};
 use std::test::Fail;
 use wasm_base::{Error, Fault, FromReader};

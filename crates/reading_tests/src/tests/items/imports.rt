@@ -1,4 +1,4 @@
-// Imports by the debug texts of their copies, and the imports of a section. Tables of rows are in `wasm_rows`.
+// Imports by the debug texts of their copies, and the imports of a section. Tables of rows are in `test_rows`.
 use crate::tests::{gives, prints, window};
 use std::alloc::Global;
 use std::process::Abort;

@@ -1,4 +1,4 @@
-// The instructions of constant expressions, by their debug texts. Tables of rows are in `wasm_rows`.
+// The instructions of constant expressions, by their debug texts. Tables of rows are in `test_rows`.
 use crate::tests::gives;
 use std::alloc::Global;
 use std::process::Abort;

@@ -1,4 +1,4 @@
-// Types and items of sections, by the debug texts of their copies. Tables of rows are in `wasm_rows`.
+// Types and items of sections, by the debug texts of their copies. Tables of rows are in `test_rows`.
 use crate::tests::{prints, prints_in, same};
 use std::test::Fail;
 use wasm_base::{BinaryReader, FromReaderIn};

@@ -1,4 +1,4 @@
-// Element and data segments by their fields. Tables of rows are in `wasm_rows`.
+// Element and data segments by their fields. Tables of rows are in `test_rows`.
 ghost use Rattle.std.specs.Prelude.{◌+◌, ◌<◌, ◌^◌, length};
 
 use crate::tests::{gives, prints, same};

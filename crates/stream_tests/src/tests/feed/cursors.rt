@@ -7,9 +7,9 @@ use std::test::Fail;
 use wasm_edits::stays;
 use wasm_feed::{Ahead, Cursor, Failed, Keep, SliceSource, Step, parse_next};
 use wasm_frames::{NextFrame, StoredParser};
+use wasm_io::{Base, ShortText, TEXT_BYTES};
 use wasm_lines::{FaultLine, FrameLine, SkippedLine};
 use wasm_parser::{Error, Fault, Parser, Payload};
-use wasm_text::{Base, ShortText, TEXT_BYTES};
 
 #[test]
 fn a_cursor_over_all_of_a_stream(rt: HostRuntime) -> Result<(), Fail> {

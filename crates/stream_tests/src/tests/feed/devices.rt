@@ -6,10 +6,10 @@ use crate::tests::{SMALL, same, same_at};
 use std::alloc::Global;
 use std::io::{self, Write};
 use std::process::Abort;
+use test_devices::Measuring;
 use wasm_feed::{
     BoundedSink, Ended, Failed, ListError, ReadSource, Sink, SliceSource, Source, WriteSink,
 };
-use wasm_testing::Measuring;
 
 /// A source of the bytes of a slice, a few at a time, that fails at one call.
 #[derive(Drop)]

@@ -1,7 +1,7 @@
 // Numbers of each length, in decimal digits.
 use crate::tests::same_at;
 use std::process::Abort;
-use wasm_text::{ShortText, TEXT_BYTES};
+use wasm_io::{ShortText, TEXT_BYTES};
 
 /// Numbers, and their digits: those between which the way to write them changes, and some whose digits differ.
 const NUMBERS: [(u64, &'static [u8]); 22] = [

@@ -3,12 +3,12 @@ use crate::tests::same_at;
 use std::alloc::{Allocator, Global};
 use std::process::Abort;
 use std::test::Fail;
+use test_devices::{Measuring, Sparing};
 use wasm_feed::{
     BoundedSink, Edit, Ended, Keep, NewSection, all_fit, edit, edit_stream, edit_to, edited_len,
     encode,
 };
 use wasm_parser::{Error, Fault, Result};
-use wasm_testing::{Measuring, Sparing};
 
 /// The custom sections "a" and "b", and a type section between them.
 const STREAM: &[u8] = b"\0asm\x01\0\0\0\0\x02\x01a\x01\x01\0\0\x03\x01bB";

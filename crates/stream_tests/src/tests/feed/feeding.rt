@@ -5,9 +5,9 @@ use std::alloc::{AllocError, Allocator, Global};
 use std::ops::Range;
 use std::process::Abort;
 use std::test::Fail;
+use test_devices::Sparing;
 use wasm_feed::{Feeder, Step};
 use wasm_parser::{Error, Fault, Payload, Result, WasmFeatures};
-use wasm_testing::Sparing;
 
 // More blocks than any of these feeders takes.
 const AMPLE: u64 = 20;

@@ -5,11 +5,11 @@ use crate::tests::{same, same_at};
 use std::alloc::Global;
 use std::process::Abort;
 use std::test::Fail;
+use test_devices::Sparing;
 use wasm_base::Fault;
 use wasm_frames::{FrameKind, NextFrame, StoredParser};
+use wasm_io::{ListError, SliceSource};
 use wasm_streams::{Cursor, FrameStep, next_frame, next_frame_for, read_more, refill};
-use wasm_testing::Sparing;
-use wasm_text::{ListError, SliceSource};
 
 // What a step said: a frame of this kind and this many bytes, a request, or a fault.
 #[derive(Clone, Copy, Debug, PartialEq, Eq, Drop)]

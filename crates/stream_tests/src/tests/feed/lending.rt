@@ -6,9 +6,9 @@ use crate::tests::{SMALL, same};
 use bitflags::Flags;
 use std::alloc::{AllocError, Allocator, Global};
 use std::process::Abort;
+use test_devices::Sparing;
 use wasm_feed::Feeder;
 use wasm_parser::{Error, Fault, Result, WasmFeatures};
-use wasm_testing::Sparing;
 
 // The bytes that the feeder may borrow: none after the end of input.
 fn lendable<'a, A: Allocator>(feeder: &Feeder<A>, piece: &'a [u8]) -> &'a [u8]

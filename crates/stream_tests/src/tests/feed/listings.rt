@@ -1,4 +1,4 @@
-// Listings: how they end, and one that is longer than what waits. Tables of rows are in `wasm_rows`.
+// Listings: how they end, and one that is longer than what waits. Tables of rows are in `test_rows`.
 use super::{PARTS, PARTS_LISTING, lists};
 use crate::tests::{same, same_at};
 use std::alloc::{AllocError, Global};

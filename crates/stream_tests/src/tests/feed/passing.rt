@@ -6,14 +6,14 @@ use super::devices::Failing;
 use crate::tests::{same, same_at};
 use std::alloc::{Allocator, Global};
 use std::test::Fail;
+use test_devices::Sparing;
 use wasm_feed::{
     Ahead, BoundedSink, Cursor, ListError, SliceSource, Source, Step, parse_next, seen,
 };
 use wasm_frames::StoredParser;
+use wasm_io::Page;
 use wasm_parser::{Error, Fault};
 use wasm_streams::{Passing, pass_part, put_all};
-use wasm_testing::Sparing;
-use wasm_text::Page;
 
 // A sink is full at this size after these bytes were put where 3 waited. Returns how many bytes then waited and were written.
 fn put(

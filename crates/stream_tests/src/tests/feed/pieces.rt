@@ -6,9 +6,9 @@ use bitflags::Flags;
 use std::alloc::{AllocError, Global};
 use std::ops::Range;
 use std::process::Abort;
+use test_devices::Sparing;
 use wasm_feed::{Event, EventKind, Feeder, fits_pieces, read_pieces_in};
 use wasm_parser::{Encoding, Error, Fault, WasmFeatures};
-use wasm_testing::Sparing;
 
 // A custom section and an unknown one, whose lengths have two and three bytes, and then no section's id.
 const CUSTOM: &[u8] = b"\0asm\x01\0\0\0\0\x84\0\x01abc\x0e\x82\x80\0\x07\x08\x80";

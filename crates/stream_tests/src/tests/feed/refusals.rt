@@ -3,8 +3,8 @@ use super::{PARTS, PARTS_LISTING, lists};
 use crate::tests::{same, same_at};
 use std::alloc::Global;
 use std::process::Abort;
+use test_devices::Sparing;
 use wasm_feed::{BoundedSink, Ended, ListError, Sink, SliceSource, Source, list_in};
-use wasm_testing::Sparing;
 
 /// A stream, and its listing.
 const LISTINGS: [(&[u8], &[u8]); 6] = [

@@ -4,12 +4,12 @@ use crate::tests::same_at;
 use std::alloc::Global;
 use std::process::Abort;
 use std::test::Fail;
+use test_devices::Sparing;
 use wasm_feed::{
     BoundedSink, Ended, Keep, ListError, Sink, SliceSource, strip, strip_in, strip_in_place,
     strip_stream, strip_to_front,
 };
 use wasm_parser::{Error, Fault, Result};
-use wasm_testing::Sparing;
 
 /// A stream, the stripped stream with the names kept, and the one without.
 type Row = (&'static [u8], &'static [u8], &'static [u8]);

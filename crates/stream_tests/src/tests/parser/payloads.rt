@@ -1,4 +1,4 @@
-// Sections, bodies and custom sections as payloads. Tables of rows are in `wasm_rows`.
+// Sections, bodies and custom sections as payloads. Tables of rows are in `test_rows`.
 use super::next;
 use crate::tests::{gives, same};
 use std::ops::Range;

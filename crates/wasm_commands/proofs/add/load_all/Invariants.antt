@@ -1,6 +1,6 @@
 use Rattle.std.proofs.Common.{map, take}
 use Rattle.wasm_console.specs.Devices.{IsUntouched}
-use Rattle.wasm_text.specs.Calls.{device_of}
+use Rattle.wasm_io.specs.Calls.{device_of}
 use Rattle.wasm_commands.specs.RewriteCommands.{EachInTurn, IsLoaded, loaded_parts, parts_of}
 use Rattle.wasm_commands.proofs.add.load_all.Given as goal
 

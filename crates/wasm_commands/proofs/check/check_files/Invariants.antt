@@ -2,7 +2,7 @@ use Rattle.std.proofs.Common.{◌<◌, take}
 use Rattle.wasm_commands.specs.Checks.{ChecksFile}
 use Rattle.wasm_commands.specs.Parsing.{texts}
 use Rattle.wasm_commands.specs.Systems.{FilesOf, InTurn, IsForwarded}
-use Rattle.wasm_text.specs.Calls.{device_of, writer_device}
+use Rattle.wasm_io.specs.Calls.{device_of, writer_device}
 use Rattle.wasm_commands.proofs.check.check_files.Given as goal
 
 abbrev pub invariant-loop-name : goal.invariant-loop-name

@@ -1,7 +1,7 @@
 use Rattle.std.proofs.Common.{refl}
 use Rattle.wasm_commands.proofs.Stopping.{stops}
 use Rattle.wasm_commands.specs.Systems.{platform}
-use Rattle.wasm_text.specs.Calls.{device_of, writer_device}
+use Rattle.wasm_io.specs.Calls.{device_of, writer_device}
 use Rattle.wasm_commands.proofs.commands.run_verb.Goals as goal
 
 pub returns-in-Err-clause-runs : goal.returns-in-Err-clause-runs

@@ -1,7 +1,7 @@
 use Rattle.std.proofs.Common.{take}
 use Rattle.wasm_commands.specs.Parsing.{texts}
 use Rattle.wasm_commands.specs.Shows.{Warns}
-use Rattle.wasm_text.specs.Calls.{device_of}
+use Rattle.wasm_io.specs.Calls.{device_of}
 use Rattle.wasm_commands.proofs.dump.warn_of_unfound.Given as goal
 
 abbrev pub invariant-loop-word : goal.invariant-loop-word

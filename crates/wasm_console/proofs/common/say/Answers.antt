@@ -1,4 +1,4 @@
-use Rattle.wasm_text.proofs.ForCallers.{says}
+use Rattle.wasm_io.proofs.ForCallers.{says}
 use Rattle.wasm_console.proofs.common.say.Goals as goal
 
 pub returns : goal.returns

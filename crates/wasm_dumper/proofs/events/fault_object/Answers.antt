@@ -1,7 +1,7 @@
 use Rattle.std.proofs.Common.{◌∷◌, []}
 use Rattle.wasm_base.specs.FaultAt.{fault_at}
-use Rattle.wasm_tree.specs.Notes.{enters, faulty, outside}
-use Rattle.wasm_tree.proofs.ForCallers.{finds_then}
+use Rattle.wasm_output.specs.Notes.{enters, faulty, outside}
+use Rattle.wasm_output.proofs.ForCallers.{finds_then}
 use Rattle.wasm_dumper.proofs.events.fault_object.Goals as goal
 
 pub returns-then-ONLY_FAULTS-clause-found : goal.returns-then-ONLY_FAULTS-clause-found

@@ -1,6 +1,6 @@
 use Rattle.wasm_dumper.proofs.Common.{arith, Types}
 use Rattle.wasm_dumper.proofs.Numbering.{up_to_here}
-use Rattle.wasm_tree.proofs.ForCallers.{finds_nothing}
+use Rattle.wasm_output.proofs.ForCallers.{finds_nothing}
 use Rattle.wasm_dumper.proofs.numbered.show_found.Goals as goal
 
 pub returns-in-Err-clause-adds : goal.returns-in-Err-clause-adds

@@ -1,4 +1,4 @@
-use Rattle.wasm_tree.proofs.ForCallers.{finds_nothing}
+use Rattle.wasm_output.proofs.ForCallers.{finds_nothing}
 use Rattle.wasm_dumper.proofs.numbered.show_import.Goals as goal
 
 pub returns-in-Ok-clause-found : goal.returns-in-Ok-clause-found

@@ -1,5 +1,5 @@
 use Rattle.wasm_dumper.proofs.Common.{AddsUpTo, Types}
-use Rattle.wasm_tree.specs.Found.{FindsNone}
+use Rattle.wasm_output.specs.Found.{FindsNone}
 use Rattle.wasm_dumper.proofs.numbered.show_types.Given as goal
 
 abbrev pub invariant-loop-ty : goal.invariant-loop-ty

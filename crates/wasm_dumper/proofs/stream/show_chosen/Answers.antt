@@ -3,7 +3,7 @@ use Rattle.std.specs.Prelude.{if◌then◌else◌}
 use Rattle.wasm_dumper.proofs.Common.{sym, ◌∙◌, report_of}
 use Rattle.wasm_dumper.specs.Checks.{notes_if}
 use Rattle.wasm_dumper.specs.Chosen.{shows_items}
-use Rattle.wasm_tree.proofs.ForCallers.{finds_same}
+use Rattle.wasm_output.proofs.ForCallers.{finds_same}
 use Rattle.wasm_dumper.proofs.Numbering.{shows_chosen, shows_unchosen}
 use Rattle.wasm_dumper.proofs.stream.show_chosen.Goals as goal
 

@@ -6,7 +6,7 @@ use Rattle.wasm_items.specs.Globals.{global_at}
 use Rattle.wasm_items.specs.Memories.{memory_type_at}
 use Rattle.wasm_items.specs.Tables.{table_at}
 use Rattle.wasm_items.specs.Tags.{tag_type_at}
-use Rattle.wasm_tree.specs.declared.numbers.Space.TheVariants.{Functions, Tables, Memories, Tags, Globals, Elements, DataSegments}
+use Rattle.wasm_output.specs.declared.numbers.Space.TheVariants.{Functions, Tables, Memories, Tags, Globals, Elements, DataSegments}
 use Rattle.wasm_dumper.proofs.Numbering.{none_numbered, shows_no_items, shows_defined, sized}
 use Rattle.wasm_dumper.proofs.Checking.{after_count, custom_found, imports_after_count}
 use Rattle.wasm_items.specs.Exports.{export_at}

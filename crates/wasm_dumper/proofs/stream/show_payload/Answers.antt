@@ -1,5 +1,5 @@
 use Rattle.std.proofs.Common.{◌∷◌, []}
-use Rattle.wasm_tree.proofs.ForCallers.{finds_then}
+use Rattle.wasm_output.proofs.ForCallers.{finds_then}
 use Rattle.wasm_dumper.proofs.stream.show_payload.Goals as goal
 
 pub returns-clause-found : goal.returns-clause-found

@@ -3,7 +3,7 @@ use Rattle.wasm_dumper.proofs.Checking.{found_all, found_none}
 use Rattle.wasm_dumper.proofs.Numbering.{shows_items_none}
 use Rattle.wasm_dumper.specs.Checks.{notes_if}
 use Rattle.wasm_dumper.specs.Dump.{ShowsItemsIf}
-use Rattle.wasm_tree.specs.Found.{Finds}
+use Rattle.wasm_output.specs.Found.{Finds}
 use Rattle.wasm_dumper.proofs.stream.show_payload_if.Goals as goal
 
 pub returns-then-has_items-clause-found : goal.returns-then-has_items-clause-found

@@ -8,7 +8,7 @@ use Rattle.wasm_custom.specs.Custom.{Custom}
 use Rattle.wasm_custom.specs.Known.{Known, reading_of}
 use Rattle.wasm_show.specs.Faults.{FindsFault, FindsFaults, custom_faults, features_faults, known_faults, read_faults}
 use Rattle.wasm_show.proofs.Faulty.{fault_or_stop, faults_same}
-use Rattle.wasm_tree.specs.Found.{Noted}
+use Rattle.wasm_output.specs.Found.{Noted}
 use Rattle.wasm_show.proofs.custom.show_custom.Goals as goal
 
 -- a section whose reader refuses the data has that fault

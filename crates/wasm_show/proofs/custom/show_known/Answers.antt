@@ -1,7 +1,7 @@
 use Rattle.wasm_custom.specs.BranchHinting.{function_hints_at}
 use Rattle.wasm_show.specs.Faults.{plainly}
 use Rattle.wasm_show.proofs.Faulty.{plain_agrees}
-use Rattle.wasm_tree.proofs.ForCallers.{finds_nothing}
+use Rattle.wasm_output.proofs.ForCallers.{finds_nothing}
 use Rattle.wasm_show.proofs.custom.show_known.Goals as goal
 
 pub returns-in-BranchHints-clause-found : goal.returns-in-BranchHints-clause-found

@@ -1,4 +1,4 @@
-use Rattle.wasm_tree.proofs.ForCallers.{says_named}
+use Rattle.wasm_output.proofs.ForCallers.{says_named}
 use Rattle.wasm_show.proofs.expressions.show_expr.Goals as goal
 
 pub returns-clause-says : goal.returns-clause-says

@@ -1,5 +1,5 @@
-use Rattle.wasm_tree.specs.Said.{SaysSome}
-use Rattle.wasm_tree.specs.Tree.{Adds}
+use Rattle.wasm_output.specs.Said.{SaysSome}
+use Rattle.wasm_output.specs.Tree.{Adds}
 use Rattle.wasm_show.proofs.expressions.write_instructions.Given as goal
 
 abbrev pub invariant-loop : goal.invariant-loop

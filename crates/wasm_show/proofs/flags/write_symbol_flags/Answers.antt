@@ -1,5 +1,5 @@
 use Rattle.std.proofs.Common.{codes, drop, false}
-use Rattle.wasm_tree.proofs.ForCallers.{says_same}
+use Rattle.wasm_output.proofs.ForCallers.{says_same}
 use Rattle.wasm_show.specs.FlagText.{symbol_words, unnamed}
 use Rattle.wasm_show.proofs.FlagTexts.{parts_in_all, says_flag}
 use Rattle.wasm_show.proofs.flags.write_symbol_flags.Goals as goal

@@ -1,4 +1,4 @@
-use Rattle.wasm_tree.specs.Tree.{Adds}
+use Rattle.wasm_output.specs.Tree.{Adds}
 use Rattle.wasm_show.proofs.Faulty.{SoFar}
 use Rattle.wasm_show.proofs.lists.show_items.Given as goal
 

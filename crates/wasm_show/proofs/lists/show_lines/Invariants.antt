@@ -1,4 +1,4 @@
-use Rattle.wasm_tree.specs.Tree.{Adds}
+use Rattle.wasm_output.specs.Tree.{Adds}
 use Rattle.wasm_show.proofs.lists.show_lines.Given as goal
 
 abbrev pub invariant-loop-item : goal.invariant-loop-item

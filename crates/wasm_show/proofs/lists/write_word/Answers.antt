@@ -1,4 +1,4 @@
-use Rattle.wasm_tree.proofs.ForCallers.{says_some}
+use Rattle.wasm_output.proofs.ForCallers.{says_some}
 use Rattle.wasm_show.proofs.lists.write_word.Goals as goal
 
 pub returns-clause-some : goal.returns-clause-some

@@ -1,8 +1,8 @@
 use Rattle.std.proofs.Common.{◌≡◌, ℕ, arith, length, rules, subst, take}
 use Rattle.std.specs.List.{flat_map}
-use Rattle.wasm_tree.specs.Said.{Says}
+use Rattle.wasm_output.specs.Said.{Says}
 use Rattle.wasm_show.specs.TypeText.{after_blank}
-use Rattle.wasm_tree.proofs.ForCallers.{says_nothing, says_item_more, says_all}
+use Rattle.wasm_output.proofs.ForCallers.{says_nothing, says_item_more, says_all}
 use Rattle.wasm_show.proofs.lists.write_words.Goals as goal
 
 pub loop-item-init : goal.loop-item-init

@@ -1,7 +1,7 @@
 use Rattle.std.proofs.Common.{take}
 use Rattle.std.specs.List.{flat_map}
-use Rattle.wasm_tree.specs.Said.{Says}
-use Rattle.wasm_tree.specs.Tree.{Adds}
+use Rattle.wasm_output.specs.Said.{Says}
+use Rattle.wasm_output.specs.Tree.{Adds}
 use Rattle.wasm_show.specs.TypeText.{after_blank}
 use Rattle.wasm_show.proofs.lists.write_words.Given as goal
 

@@ -5,7 +5,7 @@ use Rattle.wasm_streams.proofs.Stepping.{weighs_same}
 use Rattle.wasm_streams.specs.Step.{says}
 use Rattle.wasm_streams.specs.Visits.{Stages, Taken}
 use Rattle.wasm_streams.specs.declared.turns.Ended.TheVariants.{End}
-use Rattle.wasm_text.specs.Calls.{Device, device_of}
+use Rattle.wasm_io.specs.Calls.{Device, device_of}
 use Rattle.wasm_streams.proofs.visits.visit.Given.{Over}
 use Rattle.wasm_streams.proofs.visits.visit.Goals.{After-next_frame_for, After-pass_borrowed, After-take_part, In_ok-take_part-in-Parsed}
 use Rattle.wasm_streams.proofs.visits.visit.Goals.{In-Fault, In-NeedMoreData}

@@ -1,5 +1,5 @@
 use Rattle.wasm_streams.proofs.Common.{◌≡◌, beside, feed_of, weight}
-use Rattle.wasm_text.specs.Calls.{device_of}
+use Rattle.wasm_io.specs.Calls.{device_of}
 use Rattle.wasm_streams.proofs.visits.visit.Given as goal
 
 -- how far the run has come

@@ -3,8 +3,8 @@
 use super::dumps;
 use std::test::Fail;
 use wasm_dumper::Only;
-use wasm_feed::Ended;
 use wasm_parser::{Error, Fault};
+use wasm_streams::Ended;
 
 /// A module with each kind of section with every kind of item, and a fault in some.
 const SECTIONS: &[u8] =

@@ -1,7 +1,7 @@
 use Rattle.std.proofs.Common.{◌≡◌, refl}
 use Rattle.wasm_commands.specs.Colors.{marked}
 use Rattle.wasm_commands.specs.Formats.{has_colors}
-use Rattle.wasm_tree.specs.declared.tree.Style.TheVariants.{Lines}
+use Rattle.wasm_output.specs.declared.tree.Style.TheVariants.{Lines}
 use Rattle.wasm_commands.proofs.Running.{dumps_unmarked}
 use Rattle.wasm_commands.proofs.dump.run.dump_lines.Goals as goal
 

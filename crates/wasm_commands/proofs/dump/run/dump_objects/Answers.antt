@@ -1,4 +1,4 @@
-use Rattle.wasm_tree.specs.declared.tree.Style.TheVariants.{Objects}
+use Rattle.wasm_output.specs.declared.tree.Style.TheVariants.{Objects}
 use Rattle.wasm_commands.proofs.dump.run.dump_objects.Goals as goal
 
 pub returns : goal.returns

@@ -10,9 +10,9 @@ use Rattle.wasm_dumper.proofs.Dumping.{ShowsStep, Wanting}
 use Rattle.wasm_dumper.specs.Dumping.{Dumping, Finding}
 use Rattle.wasm_dumper.proofs.Numbering as numbering
 use Rattle.wasm_streams.specs.declared.turns.Turn.TheVariants as turn
-use Rattle.wasm_text.specs.Calls.{device_of}
-use Rattle.wasm_tree.specs.Tree.{Writing}
-use Rattle.wasm_tree.specs.Found.{Noted}
+use Rattle.wasm_io.specs.Calls.{device_of}
+use Rattle.wasm_output.specs.Tree.{Writing}
+use Rattle.wasm_output.specs.Found.{Noted}
 use Rattle.wasm_dumper.proofs.stream.DumperVisitorGlobal.read_on.Given.{Over}
 use Rattle.wasm_dumper.proofs.stream.DumperVisitorGlobal.read_on.Goals.{After-show_last_fault, After-show_skipped, In-Some}
 use Rattle.wasm_dumper.proofs.stream.DumperVisitorGlobal.read_on.Goals as goal

@@ -1,9 +1,9 @@
 use Rattle.std.proofs.Common.{◌∷◌, [], List, ℕ, codes, subst}
-use Rattle.wasm_tree.specs.Fields.{named, raw, range}
+use Rattle.wasm_output.specs.Fields.{named, raw, range}
 use Rattle.wasm_show.specs.ItemText.{data_kind_fields}
-use Rattle.wasm_tree.specs.Said.{HasLine}
-use Rattle.wasm_tree.specs.Tree.{base_of}
-use Rattle.wasm_tree.proofs.ForCallers.{more_fields}
+use Rattle.wasm_output.specs.Said.{HasLine}
+use Rattle.wasm_output.specs.Tree.{base_of}
+use Rattle.wasm_output.proofs.ForCallers.{more_fields}
 use Rattle.wasm_show.proofs.items.DataShow.show.Goals as goal
 
 pub returns-clause-says : goal.returns-clause-says

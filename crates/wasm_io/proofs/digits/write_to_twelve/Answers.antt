@@ -1,0 +1,11 @@
+use Rattle.std.proofs.Common.{append_assoc}
+use Rattle.wasm_io.proofs.Decimal.{decimal_by_eight}
+use Rattle.wasm_io.proofs.digits.write_to_twelve.Goals as goal
+
+pub returns-clause-written : goal.returns-clause-written
+returns-clause-written c = rw (
+  c.write_eight.ensures.written,
+  c.write_to_four-middle.ensures.written,
+  decimal_by_eight c.args.number c.if-number-lt100000000.false c.ranges.number.fits,
+  append_assoc,
+)

@@ -1,0 +1,5 @@
+use Rattle.wasm_output.proofs.Finding.{puts_more}
+use Rattle.wasm_output.proofs.output.Output.put_more.Goals as goal
+
+pub returns : goal.returns
+returns g c = puts_more _ _ _ c.put.ensures

@@ -1,5 +1,0 @@
-use Rattle.wasm_tree.proofs.Saying.{none_in_digits}
-use Rattle.wasm_tree.proofs.escapes.hexadecimal_digits.Goals as goal
-
-pub returns-clause-one_line : goal.returns-clause-one_line
-returns-clause-one_line c = none_in_digits c.from.result c.from-2.result

@@ -1,6 +1,0 @@
-use Rattle.wasm_tree.proofs.Common.{arith}
-use Rattle.wasm_tree.proofs.EscapedBytes.{is_marked}
-use Rattle.wasm_tree.proofs.escapes.is_escaped.Goals as goal
-
-pub returns : goal.returns
-returns c = rw c.from.ensures (is_marked c.args.byte (omega arith))

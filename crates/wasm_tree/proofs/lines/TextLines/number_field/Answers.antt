@@ -1,6 +1,0 @@
-use Rattle.wasm_tree.proofs.Common.{arith}
-use Rattle.wasm_tree.proofs.Saying.{none_in_number_field}
-use Rattle.wasm_tree.proofs.lines.TextLines.number_field.Goals as goal
-
-pub short-requires : goal.short-requires
-short-requires g c = grind (arith, none_in_number_field)

@@ -1,7 +1,0 @@
-use Rattle.wasm_tree.specs.Fields.{value_text}
-use Rattle.wasm_tree.specs.Values.{value_of}
-use Rattle.wasm_tree.proofs.Saying.{says_value}
-use Rattle.wasm_tree.proofs.lines.TextLines.whole_field.Goals as goal
-
-pub returns-clause-says : goal.returns-clause-says
-returns-clause-says g c = says_value _ (value_text (value_of c.args.value)) _ _ _ c.begin_field.ensures.says c.value.ensures.says

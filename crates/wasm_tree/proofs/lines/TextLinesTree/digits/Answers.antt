@@ -1,6 +1,0 @@
-use Rattle.wasm_tree.proofs.Common.{arith}
-use Rattle.wasm_tree.proofs.Saying.{none_in_decimal}
-use Rattle.wasm_tree.proofs.lines.TextLinesTree.digits.Goals as goal
-
-pub short-requires : goal.short-requires
-short-requires g c = record { one_line = none_in_decimal c.args.number (omega arith) }

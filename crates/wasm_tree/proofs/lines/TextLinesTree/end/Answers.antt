@@ -1,6 +1,0 @@
-use Rattle.wasm_tree.proofs.Common.{refl}
-use Rattle.wasm_tree.proofs.Writing.{ends}
-use Rattle.wasm_tree.proofs.lines.TextLinesTree.end.Goals as goal
-
-pub returns-clause-adds : goal.returns-clause-adds
-returns-clause-adds g c o i = ends _ o _ _ refl c.if-not-self.false (c.put.ensures _) i

@@ -1,6 +1,0 @@
-use Rattle.wasm_tree.proofs.Common.{arith}
-use Rattle.wasm_tree.proofs.MemberTexts.{item_leads}
-use Rattle.wasm_tree.proofs.objects.Objects.begin_item.Goals as goal
-
-pub short-requires : goal.short-requires
-short-requires g c = search (arith, item_leads)

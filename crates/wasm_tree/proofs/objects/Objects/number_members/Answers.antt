@@ -1,6 +1,0 @@
-use Rattle.wasm_tree.proofs.Common.{arith}
-use Rattle.wasm_tree.proofs.MemberTexts.{number_members_lead}
-use Rattle.wasm_tree.proofs.objects.Objects.number_members.Goals as goal
-
-pub short-requires : goal.short-requires
-short-requires g c = search (arith, number_members_lead)

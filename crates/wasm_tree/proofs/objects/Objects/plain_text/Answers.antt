@@ -1,6 +1,0 @@
-use Rattle.wasm_tree.proofs.Common.{arith}
-use Rattle.wasm_tree.proofs.Json.{leads_from, plain_run_stays}
-use Rattle.wasm_tree.proofs.objects.Objects.plain_text.Goals as goal
-
-pub put-requires-clause-leads : goal.put-requires-clause-leads
-put-requires-clause-leads g c = search (arith, leads_from, plain_run_stays)

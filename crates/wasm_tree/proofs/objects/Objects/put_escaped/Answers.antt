@@ -1,6 +1,0 @@
-use Rattle.wasm_tree.proofs.Common.{arith}
-use Rattle.wasm_tree.proofs.Json.{escaped_stays}
-use Rattle.wasm_tree.proofs.objects.Objects.put_escaped.Goals as goal
-
-pub put-requires-clause-leads : goal.put-requires-clause-leads
-put-requires-clause-leads g c = grind (arith, escaped_stays)

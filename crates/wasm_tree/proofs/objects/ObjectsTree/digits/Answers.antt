@@ -1,7 +1,0 @@
-use Rattle.wasm_tree.proofs.Common.{arith}
-use Rattle.wasm_tree.proofs.Json.{leads_from, plain_run_stays}
-use Rattle.wasm_tree.proofs.Saying.{plain_decimal}
-use Rattle.wasm_tree.proofs.objects.ObjectsTree.digits.Goals as goal
-
-pub short-requires : goal.short-requires
-short-requires g c = search (arith, leads_from, plain_run_stays, plain_decimal)

@@ -1,5 +1,0 @@
-use Rattle.wasm_tree.proofs.Finding.{puts_more}
-use Rattle.wasm_tree.proofs.output.Output.put_short.Goals as goal
-
-pub returns : goal.returns
-returns g c = puts_more _ _ _ c.put_text.ensures
