@@ -1,12 +1,11 @@
 -- Lists whose elements are related in turn.
-use Rattle.std.proofs.Common.{◌≡◌, ◌∙◌, ◌+◌, ◌<◌, ℕ, Bool, Option, List, [], ◌∷◌, ◌++◌, ap, sym, subst₂, map, take, length, get_or}
+use Rattle.std.proofs.Common.{◌≡◌, ◌∙◌, ◌+◌, ◌<◌, ℕ, List, Err, [], ◌∷◌, ◌++◌, ap, sym, subst₂, map, take, length, get_or}
 use Rattle.std.proofs.lemmas.List.{map-append, map_more, take-map}
-use Rattle.wasm_console.specs.Devices.{IsUntouched}
-use Rattle.wasm_commands.proofs.Editing.{untouched_before}
 use Rattle.wasm_io.specs.declared.devices.sink.Sink.{Ghosts as SinkOf}
 use Rattle.wasm_io.specs.declared.devices.source.Source.{Ghosts as SourceOf}
 use Rattle.wasm_commands.specs.RewriteCommands.{CannotLoad, EachInTurn, IsLoaded, parts_of}
-use Rattle.wasm_commands.specs.Rewrites.{CannotHold}
+use Rattle.wasm_commands.specs.Rewrites.{Holds}
+use Rattle.wasm_commands.specs.Runs.{Run}
 use Rattle.wasm_commands.specs.declared.add.Addition.{Addition}
 use Rattle.wasm_commands.specs.declared.system.System.{Ghosts as SystemOf}
 
@@ -41,20 +40,18 @@ each_next_seen R f g xs i x ys new y less is all one e =
     each_next R f xs i x (map g ys) (map g new) (g y) less is all one (ap (map g) e ∙ map-append g ys (y ∷ []))
 
 -- the file of the next section could not be read
-pub cannot_load : {S I O : Type 0} (calls : SystemOf S I O) (sources : SourceOf I) (sinks : SinkOf O) (system : S)
-    (additions : List Addition) (i : ℕ) (x : Addition) (loaded : List (List ℕ × List ℕ)) (a b c : Option (List ℕ)) (f g h : Bool)
-    (status : ℕ) → i < length additions → x ≡ get_or additions i x
-    → EachInTurn (IsLoaded calls sources sinks system) (map parts_of (take i additions)) loaded
-    → IsUntouched (record { before = a; after = b; had_failed = f; has_failed = g })
-    → CannotHold calls sources sinks system x.file.now (record { before = b; after = c; had_failed = g; has_failed = h }) status
-    → CannotLoad calls sources sinks system (map parts_of additions)
-    (record { before = a; after = c; had_failed = f; has_failed = h }) status
-cannot_load calls sources sinks system additions i x loaded a b c f g h status less is loads silent cannot = record {
+pub cannot_load : {S I O : Type 0} (calls : SystemOf S I O) (sources : SourceOf I) (sinks : SinkOf O)
+    (additions : List Addition) (i : ℕ) (x : Addition) (loaded : List (List ℕ × List ℕ)) (status : ℕ) (old new : Run S)
+    → i < length additions → x ≡ get_or additions i x
+    → EachInTurn (IsLoaded calls sources sinks old.system) (map parts_of (take i additions)) loaded
+    → Holds calls sources sinks x.file.now (Err status) old new
+    → CannotLoad calls sources sinks (map parts_of additions) status old new
+cannot_load calls sources sinks additions i x loaded status old new less is loads cannot = record {
   first = map parts_of (take i additions);
   next = parts_of x;
   count = i + 1;
   begins = begins_with_next parts_of additions i x less is;
   loaded = loaded;
   loads = loads;
-  cannot = untouched_before (λ d. CannotHold calls sources sinks system x.file.now d status) a b c f g h silent cannot;
+  cannot = cannot;
 }

@@ -1,6 +1,6 @@
 -- Streams that are written with edits, devices that are left alone, and what a status says.
-use Rattle.std.proofs.Common.{◌≡◌, ◌==◌, inl, inr, Vec, Global, ℕ, Bool, true, false, List, ◌++◌, Option, Some, None, Result, Ok, Err, ap}
-use Rattle.std.proofs.Common.{refl, subst, sym}
+use Rattle.std.proofs.Common.{◌≡◌, inl, inr, Vec, Global, ℕ, Bool, true, false, List, ◌++◌, Option, Some, None, Result, Ok, Err, ap}
+use Rattle.std.proofs.Common.{refl, subst, sym, is_ok}
 use Rattle.std.proofs.Common.{length, take, take_all, le_refl, All, IsTrue, ◌↔◌, [], ◌∷◌}
 use Rattle.std.specs.Io.KnownBytes.{Appends, Consumes, Keeps}
 use Rattle.std.proofs.KnownBytes.{Appends-kept, Appends-trans}
@@ -19,10 +19,10 @@ use Rattle.wasm_io.specs.declared.devices.sink.Sink.{Ghosts as SinkOf}
 use Rattle.wasm_io.specs.declared.devices.source.Source.{Ghosts as SourceOf}
 use Rattle.wasm_streams.specs.declared.turns.Ended.{Ended}
 use Rattle.wasm_streams.specs.declared.turns.Ended.TheVariants.{End, Fault}
-use Rattle.wasm_console.specs.Devices.{IsUntouched}
 use Rattle.wasm_commands.specs.EditsTwice.{EditsTwice, GoesOnAs}
-use Rattle.wasm_commands.specs.Rewrites.{EndsBytes, EditsBy, EditsFile, EditsOriginal, EndsFile, IsWritten, WritesAll, input_device}
+use Rattle.wasm_commands.specs.Rewrites.{EditsBy, EditsFile, EditsOriginal, EndsFile, EndsTarget, IsWritten, WritesAll, input_device}
 use Rattle.wasm_commands.specs.Rewrites.{is_whole}
+use Rattle.wasm_commands.specs.Runs.{Run}
 use Rattle.wasm_commands.specs.declared.reasons.Cause.{Cause}
 use Rattle.wasm_commands.specs.declared.rewriting.Original.{Original}
 use Rattle.wasm_commands.specs.declared.system.System.{Ghosts as SystemOf}
@@ -32,15 +32,6 @@ pub not_accepted : (stream : List ℕ) (e : Error) → RefusesToStrip stream e �
     → (¬ IsAccepted stream) × EndsWithFault stream e
 not_accepted stream e r n =
     let refused : ¬ IsAccepted stream = λ a. n (ap (λ f. f.fault) (r.memory a)) in (refused, r.fault refused)
-
--- what happens to a device that was left alone before
-pub untouched_before : (P : Device → Type 0) (a b c : Option (List ℕ)) (f g h : Bool)
-    → IsUntouched (record { before = a; after = b; had_failed = f; has_failed = g })
-    → P (record { before = b; after = c; had_failed = g; has_failed = h })
-    → P (record { before = a; after = c; had_failed = f; has_failed = h })
-untouched_before P a b c f g h u p =
-    subst (λ x. P (record { before = x; after = c; had_failed = f; has_failed = h })) u.bytes
-    (subst (λ x. P (record { before = b; after = c; had_failed = x; has_failed = h })) u.failed p)
 
 -- ---- a stream that was written to its end
 
@@ -91,16 +82,16 @@ module _ {S I O : Type 0} (calls : SystemOf S I O) (sources : SourceOf I) (sinks
       → EditsFile calls sources sinks system edits original.name.now is_checked output (Ok End)
       → IsWritten calls sources sinks system edits original output
   by_checked true is e =
-      let all = all_edited edits (input_device calls sources sinks system e.opened e.rest) output e.writes in
+      let all = all_edited edits (input_device calls sources sinks e.opened e.rest) output e.writes in
       record {
         stream = all.0;
         given = rw is (record { opened = e.opened; rest = e.rest; opens = e.opens; gave = all.1 });
         written = all.2;
       }
   by_checked false is e =
-      let again = all_twice edits (input_device calls sources sinks system e.first e.first_rest)
-      (input_device calls sources sinks system e.second e.second_rest) output e.writes in
-      let all = all_edited edits (input_device calls sources sinks system e.second e.second_rest) output again in
+      let again = all_twice edits (input_device calls sources sinks e.first e.first_rest)
+      (input_device calls sources sinks e.second e.second_rest) output e.writes in
+      let all = all_edited edits (input_device calls sources sinks e.second e.second_rest) output again in
       record {
         stream = all.0;
         given = rw is (record { opened = e.second; rest = e.second_rest; opens = e.reopens; gave = all.1 });
@@ -127,22 +118,22 @@ module _ {S I O : Type 0} (calls : SystemOf S I O) (sources : SourceOf I) (sinks
   whole_written (Ok (Err why)) e is = absurd cc
   whole_written (Err cause) e is = absurd cc
 
--- the status of a run that wrote a file is 0 exactly if the stream was written to its end
-pub zero_if_whole : (name target : List ℕ) (edited : Result (Result Ended ListError) Cause) (errors : Device) (status : ℕ)
-    → EndsFile name target edited errors status → (status == 0) ≡ is_whole edited
-zero_if_whole name target (Ok (Ok End)) errors status e = rw e.0 refl
-zero_if_whole name target (Ok (Ok (Fault f))) errors status e = rw e.answers refl
-zero_if_whole name target (Ok (Err Input)) errors status e = rw e.gives_up.answers refl
-zero_if_whole name target (Ok (Err Output)) errors status e = rw e.gives_up.answers refl
-zero_if_whole name target (Ok (Err Memory)) errors status e = rw e.gives_up.answers refl
-zero_if_whole name target (Err cause) errors status e = rw e.answers refl
+-- a command goes on after it has written a file exactly if the stream was written to its end
+pub ok_if_whole : {S : Type 0} (name target : List ℕ) (edited : Result (Result Ended ListError) Cause) (result : Result (Unit {0}) ℕ)
+    (old new : Run S) → EndsFile name target edited result old new → is_ok result ≡ is_whole edited
+ok_if_whole name target (Ok (Ok End)) result old new e = rw e.0 refl
+ok_if_whole name target (Ok (Ok (Fault f))) result old new e = rw e.answers refl
+ok_if_whole name target (Ok (Err Input)) result old new e = rw e.stops.answers refl
+ok_if_whole name target (Ok (Err Output)) result old new e = rw e.stops.answers refl
+ok_if_whole name target (Ok (Err Memory)) result old new e = rw e.stops.answers refl
+ok_if_whole name target (Err cause) result old new e = rw e.answers refl
+
+pub ok_if_complete : {S : Type 0} (target : List ℕ) (is_complete : Bool) (result : Result (Unit {0}) ℕ) (old new : Run S)
+    → EndsTarget target is_complete result old new → is_ok result ≡ is_complete
+ok_if_complete target true result old new e = rw e.0 refl
+ok_if_complete target false result old new e = rw e.stops.answers refl
 
 -- ---- bytes that were written as they are
-
-pub zero_if_complete : (target : List ℕ) (is_complete : Bool) (errors : Device) (status : ℕ)
-    → EndsBytes target is_complete errors status → (status == 0) ≡ is_complete
-zero_if_complete target true errors status e = rw e.0 refl
-zero_if_complete target false errors status e = rw e.gives_up.answers refl
 
 -- all bytes were written, and then the output failed
 pub all_but_flushed : (a b c : Option (List ℕ)) (bytes : List ℕ) → Appends a b bytes → Keeps b c → (n : ℕ) × Appends a c (take n bytes)

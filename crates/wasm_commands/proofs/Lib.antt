@@ -5,11 +5,11 @@ pub mod Coloring
 pub mod Editing
 pub mod Finding
 pub mod FirstNamed
+pub mod Operands
 pub mod Parsing
-pub mod Refusing
+pub mod FirstWords
 pub mod Running
 pub mod Setting
 pub mod Showing
-pub mod Stopping
+pub mod Steps
 pub mod Turns
-pub mod Words

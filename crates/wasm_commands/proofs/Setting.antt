@@ -1,7 +1,6 @@
 -- What is written of a stream in which a section is set.
 use Rattle.std.proofs.Common.{◌≡◌, ℕ, Bool, true, false, List, [], ◌∷◌, ◌++◌, Some, None, Result, Ok, Err, refl, sym, ap, ◌∙◌}
 use Rattle.std.proofs.Common.{IsTrue, ◌↔◌, codes, inr}
-use Rattle.std.specs.declared.alloc.AllocError.{AllocError}
 use Rattle.std.proofs.lemmas.List.Elements.{All-cons, All-nil}
 use Rattle.wasm_base.specs.Features.{all_features}
 use Rattle.wasm_edits.proofs.ForCallers.{edits_so}
@@ -15,20 +14,7 @@ use Rattle.wasm_grammar.specs.EventRanges.{consumed_by}
 use Rattle.wasm_grammar.specs.Reading.{Event, Report, Stream, version, counted, start_section, data_count_section, code_start}
 use Rattle.wasm_grammar.specs.Reading.{code_entry, custom_section, unknown_section, stream_end}
 use Rattle.wasm_commands.specs.FirstNamed.{FindsFirst, ReplacesFirst}
-use Rattle.wasm_commands.specs.ArgumentLists.{Read}
-use Rattle.wasm_commands.specs.RewriteCommands.{SetsIn, SetsSection}
-use Rattle.wasm_commands.specs.Systems.{IfAllocated}
 use Rattle.wasm_commands.specs.declared.around.Around.{Around}
-use Rattle.wasm_commands.specs.declared.system.System.{Ghosts as SystemOf}
-use Rattle.wasm_io.specs.Calls.{Device}
-use Rattle.wasm_io.specs.declared.devices.sink.Sink.{Ghosts as SinkOf}
-use Rattle.wasm_io.specs.declared.devices.source.Source.{Ghosts as SourceOf}
-
--- what is done unless an allocation failed
-pub if_allocated : {does other : ℕ → Type 0} → ((status : ℕ) → does status → other status) → (output errors : Device)
-    (result : Result ℕ AllocError) → IfAllocated does output errors result → IfAllocated other output errors result
-if_allocated f output errors (Ok status) d = f status d
-if_allocated f output errors (Err refused) u = u
 
 -- a section that does not fit
 pub no_fit : (new : NewSection) (fits : Bool) → IsTrue fits ↔ Fits new → fits ≡ false → ¬ Fits new
@@ -78,13 +64,3 @@ module _ (new : NewSection) where
         reading = r.reading;
         written = end_consumes_all stream 0 all_features r.events r.offset r.reading ∙ sym (all_stay r.events);
       })
-
--- ---- what is done, unless an allocation failed
-
-module _ {S I O : Type 0} (calls : SystemOf S I O) (sources : SourceOf I) (sinks : SinkOf O) (system : S) (reads : List Read)
-    (output : Device) (forwarded : Bool) (errors : Device) where
-  pub section_set : (new : NewSection) (name stream : List ℕ) → new.name.now ≡ codes "producers" → (result : Result ℕ AllocError)
-      → IfAllocated (SetsIn calls sources sinks system reads output forwarded errors new name stream) output errors result
-      → IfAllocated (SetsSection calls sources sinks system reads output forwarded errors name stream) output errors result
-  section_set new name stream named (Ok status) s = record { new = new; named = named; sets = inr s }
-  section_set new name stream named (Err refused) u = u

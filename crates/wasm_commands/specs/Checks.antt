@@ -2,11 +2,10 @@
 use Rattle.std.specs.Prelude.{◌≡◌, ◌⊎◌, ℕ, Bool, true, false, List, [], ◌∷◌, ◌++◌, codes, None, Result, Ok, Err}
 use Rattle.std.specs.Prelude.{if◌then◌else◌}
 use Rattle.std.specs.Io.KnownBytes.{Appends}
-use Rattle.std.specs.declared.alloc.AllocError.{AllocError}
 use Rattle.wasm_commands.specs.ArgumentLists.{Read, has_option, operands_in}
 use Rattle.wasm_commands.specs.Messages.{name_shown}
 use Rattle.wasm_commands.specs.declared.options.Flag.TheVariants.{Quiet}
-use Rattle.wasm_commands.specs.Systems.{Files, FailsOn, InTurn, RunsIfMemory, StopsForMemory}
+use Rattle.wasm_commands.specs.Systems.{Files, FailsOn, InTurn, StopsForMemory}
 use Rattle.wasm_commands.specs.Systems.{UsesFile, named_files}
 use Rattle.wasm_console.specs.Devices.{IsUntouched}
 use Rattle.wasm_dumper.specs.Checks.{NotedOf}
@@ -67,10 +66,7 @@ abbrev pub ChecksFile : Files → (is_quiet : Bool) (name : List ℕ) → (outpu
 ChecksFile files is_quiet name output errors status =
     UsesFile files (ChecksOpened is_quiet name) name output errors status ⊎ StopsForMemory output errors status
 
--- | what `check` does with the files that its arguments name
--- Each file that the arguments name was checked in turn, or standard input if they name none; or an allocation failed
--- before.
-abbrev pub ChecksFiles : Files → List Read → (output errors : Device) → Result ℕ AllocError → Type 0
-ChecksFiles files reads output errors result =
-    RunsIfMemory (InTurn (ChecksFile files (has_option Quiet reads)) (named_files (operands_in reads))) output errors
-    result
+-- Each file that the arguments name was checked in turn, or standard input if they name none.
+abbrev pub ChecksFiles : Files → List Read → (output errors : Device) (status : ℕ) → Type 0
+ChecksFiles files reads output errors status =
+    InTurn (ChecksFile files (has_option Quiet reads)) (named_files (operands_in reads)) output errors status

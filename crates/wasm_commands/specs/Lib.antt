@@ -15,5 +15,6 @@ pub mod Reasons
 pub mod Refusals
 pub mod RewriteCommands
 pub mod Rewrites
+pub mod Runs
 pub mod Shows
 pub mod Systems

@@ -7,12 +7,9 @@ use Rattle.std.specs.Borrow.{Bor}
 use Rattle.std.specs.List.{after_first, before_first, position_or_len}
 use Rattle.std.specs.declared.alloc.Global.{Global}
 use Rattle.std.specs.Str.Parse.{IsNumeral, digits_value, without_leading_plus}
-use Rattle.std.specs.declared.alloc.AllocError.{AllocError}
 use Rattle.wasm_base.specs.Window.{place}
 use Rattle.wasm_base.specs.declared.error.Error.{Error}
 use Rattle.wasm_custom.specs.Custom.{Custom}
-use Rattle.wasm_io.specs.Calls.{Device}
-use Rattle.wasm_io.specs.Messages.{Says}
 use Rattle.wasm_io.specs.declared.devices.sink.Sink.{Ghosts as SinkOf}
 use Rattle.wasm_io.specs.declared.devices.source.Source.{Ghosts as SourceOf}
 use Rattle.wasm_edits.specs.Edited.{IsEdited}
@@ -25,16 +22,14 @@ use Rattle.wasm_edits.specs.declared.encoding.NewSection.{NewSection}
 use Rattle.wasm_streams.specs.declared.turns.Ended.{Ended}
 use Rattle.wasm_io.specs.declared.devices.ListError.{ListError}
 use Rattle.wasm_edits.specs.declared.fates.Keep.{Keep}
-use Rattle.wasm_console.specs.Devices.{IsUntouched}
 use Rattle.wasm_commands.specs.ArgumentLists.{Read, has_option, is_equals, last_value, operands_in, values_in}
 use Rattle.wasm_commands.specs.Finding.{FindsSection}
 use Rattle.wasm_commands.specs.FirstNamed.{FindsFirst, ReplacesFirst}
-use Rattle.wasm_commands.specs.Messages.{StopsAt, about_word, command_text, input_twice_text, missing_text}
+use Rattle.wasm_commands.specs.Messages.{about_word, command_text, input_twice_text, missing_text}
 use Rattle.wasm_commands.specs.Parsing.{texts}
-use Rattle.wasm_commands.specs.Rewrites.{CannotHold, CannotOpen, ChangesFile, EndsRun, Gave, IsOriginal, WritesBytesTo}
-use Rattle.wasm_commands.specs.Rewrites.{WritesTo}
+use Rattle.wasm_commands.specs.Rewrites.{Changes, EditsTo, EndsRun, Finds, Gave, Holds, OnlyWrites, Opens, WritesTo}
 use Rattle.wasm_commands.specs.Rewrites.{target_in}
-use Rattle.wasm_commands.specs.Systems.{IfAllocated, RefusesWith}
+use Rattle.wasm_commands.specs.Runs.{Allots, IsSound, Run, RunsOut, Stops, StopsAtFault, Then}
 use Rattle.wasm_commands.specs.declared.add.Addition.{Addition}
 use Rattle.wasm_commands.specs.declared.add.Loaded.{Loaded}
 use Rattle.wasm_commands.specs.declared.add.Operands.{Operands}
@@ -42,6 +37,7 @@ use Rattle.wasm_commands.specs.declared.options.Flag.TheVariants as option
 use Rattle.wasm_commands.specs.declared.options.Verb.{Verb}
 use Rattle.wasm_commands.specs.declared.options.Verb.TheVariants as verb
 use Rattle.wasm_commands.specs.declared.rewriting.Original.{Original}
+use Rattle.wasm_commands.specs.declared.strip.Asked.{Asked}
 use Rattle.wasm_commands.specs.declared.system.System.{Ghosts as SystemOf}
 
 -- an argument after those that a command takes
@@ -56,16 +52,29 @@ wrong_value_text verb option value = command_text verb ++ (codes ": wrong value 
 abbrev pub too_large_text : Verb → (name : List ℕ) → List ℕ
 too_large_text verb name = command_text verb ++ (codes ": section '" ++ (name ++ codes "' is too large\n"))
 
--- what a command does, unless an allocation failed; nothing is said of the output then
-abbrev pub IfAdded : (does : ℕ → Type 0) → (errors : Device) → Result ℕ AllocError → Type 0
-IfAdded does errors (Ok status) = does status
-IfAdded does errors (Err e) = IsUntouched errors
+-- A command takes this file.
+abbrev pub IsFile : {S : Type 0} → (name : List ℕ) → Result (Bor (List ℕ)) ℕ → (old new : Run S) → Type 0
+IsFile name result old new = (file : Bor (List ℕ)) × (result ≡ Ok file) × (file.now ≡ name) × (new ≡ old)
+
+-- | the operand of a command that takes at most one file
+-- It takes at most one file, and without one standard input.
+abbrev pub TakesFile : {S : Type 0} → Verb → (operands : List (List ℕ)) → Result (Bor (List ℕ)) ℕ → (old new : Run S)
+    → Type 0
+TakesFile verb [] = IsFile (codes "-")
+TakesFile verb (name ∷ []) = IsFile name
+TakesFile verb (name ∷ (extra ∷ more)) = Stops 2 (extra_text verb extra)
 
 -- These sections stay by the options of `strip`.
 pub record IsKept (reads : List Read) (keep : Keep) : Type 0 where
   pub names : keep.names ≡ has_option option.KeepNames reads
   pub kept : texts keep.kept.now ≡ values_in option.Keep reads
   pub removed : texts keep.removed.now ≡ values_in option.Only reads
+
+-- what the arguments of `strip` ask for
+pub record IsStripAsked (reads : List Read) (asked : Asked) : Type 0 where
+  pub kept : texts asked.kept.items ≡ values_in option.Keep reads
+  pub removed : texts asked.removed.items ≡ values_in option.Only reads
+  pub operands : texts asked.operands.items ≡ operands_in reads
 
 -- the number that a word is: decimal digits, with an optional plus before them
 abbrev pub number_in : (word : List ℕ) → ℕ
@@ -169,41 +178,47 @@ AddsTo stream loaded (Err e) = (name : List ℕ) × FindsSection name 0 stream (
 
 -- ---- the data of sections that are added
 
-module _ {S I O : Type 0} (calls : SystemOf S I O) (sources : SourceOf I) (sinks : SinkOf O) (system : S) where
+module _ {S I O : Type 0} (calls : SystemOf S I O) (sources : SourceOf I) (sinks : SinkOf O) where
   -- The file of a section was read, and these are the section's name and data.
-  abbrev pub IsLoaded : (addition loaded : List ℕ × List ℕ) → Type 0
-  IsLoaded addition loaded = (loaded.0 ≡ addition.0) × Gave calls sources sinks system addition.1 loaded.1
+  abbrev pub IsLoaded : (system : S) (addition loaded : List ℕ × List ℕ) → Type 0
+  IsLoaded system addition loaded =
+      (loaded.0 ≡ addition.0) × Gave calls sources sinks system addition.1 loaded.1
 
   -- The files of some additions were read, and the next one could not be.
-  pub record CannotLoad (additions : List (List ℕ × List ℕ)) (errors : Device) (status : ℕ) : Type 0 where
+  pub record CannotLoad (additions : List (List ℕ × List ℕ)) (status : ℕ) (old new : Run S) : Type 0 where
     pub first : List (List ℕ × List ℕ)
     pub next : List ℕ × List ℕ
     pub count : ℕ
     pub begins : take count additions ≡ first ++ next ∷ []
     pub loaded : List (List ℕ × List ℕ)
-    pub loads : EachInTurn IsLoaded first loaded
-    pub cannot : CannotHold calls sources sinks system next.1 errors status
+    pub loads : EachInTurn (IsLoaded old.system) first loaded
+    pub cannot : Holds calls sources sinks next.1 (Err status) old new
 
   -- | the files with the data of sections that are added: each is read into memory, in order, or the first one that
   --   can't be is reported
-  -- The files of all additions were read, or one could not be, or an allocation failed.
-  abbrev pub LoadsAll : (additions : List (List ℕ × List ℕ)) (errors : Device)
-      → Result (Result (Vec Loaded Global) ℕ) AllocError → Type 0
-  LoadsAll additions errors (Ok (Ok all)) =
-      EachInTurn IsLoaded additions (map loaded_parts all.items) × IsUntouched errors
-  LoadsAll additions errors (Ok (Err status)) = CannotLoad additions errors status
-  LoadsAll additions errors (Err e) = IsUntouched errors
+  -- The files of all additions were read, or one could not be, or memory ran out.
+  abbrev pub LoadsAll : (additions : List (List ℕ × List ℕ)) → Result (Vec Loaded Global) ℕ → (old new : Run S)
+      → Type 0
+  LoadsAll additions (Ok all) old new =
+      EachInTurn (IsLoaded old.system) additions (map loaded_parts all.items) × (new ≡ old)
+  LoadsAll additions (Err status) old new =
+      CannotLoad additions status old new ⊎ RunsOut {A = Unit {0}} (Err status) old new
 
-  -- The file was opened to be searched, and this was said of its reading.
-  pub record SearchesOpened (name : List ℕ) (errors : Device) (status : ℕ) : Type 0 where
+  -- The search ended so, and the output may have changed.
+  pub record SearchesOpened (name : List ℕ) (result : Result (Unit {0}) ℕ) (old new : Run S) : Type 0 where
     pub opened : I
-    pub opens : calls.opens system name (Ok opened)
+    pub opens : calls.opens old.system name (Ok opened)
+    pub middle : Run S
+    pub only : OnlyWrites old middle
     pub how : Result Ended ListError
-    pub ends : EndsRun name how errors status
+    pub ends : EndsRun name how result middle new
 
-  abbrev pub Searches : (name : List ℕ) (errors : Device) (status : ℕ) → Type 0
-  Searches name errors status =
-      CannotOpen calls sources sinks system name errors status ⊎ SearchesOpened name errors status
+  -- | a file that is searched for sections: it is read to its end, or the search stops. Nothing is said of the output
+  -- The file was read to its end, or it has a fault, or reading it failed, or memory ran out.
+  abbrev pub Searches : {A : Type 0} → (name : List ℕ) → Result A ℕ → (old new : Run S) → Type 0
+  Searches name (Ok found) old new = SearchesOpened name (Ok tt) old new
+  Searches name (Err status) old new = RunsOut {A = Unit {0}} (Err status) old new
+      ⊎ (Opens calls sources sinks name (Err status) old new ⊎ SearchesOpened name (Err status) old new)
 
 -- ---- `producers --set`
 
@@ -243,249 +258,235 @@ FindsChange stream (Ok new) = (found : Option Custom) × FindsSection (codes "pr
 FindsChange stream (Err e) = FindsSection (codes "producers") 0 stream (Err e)
     ⊎ ((found : Option Custom) × FindsSection (codes "producers") 0 stream (Ok found))
 
-module _ {S I O : Type 0} (calls : SystemOf S I O) (sources : SourceOf I) (sinks : SinkOf O) (system : S)
-    (reads : List Read) (output : Device) (forwarded : Bool) (errors : Device) where
+-- All values of `--set` are settings, or the first that is none was refused.
+abbrev pub TakesSettings : {S A : Type 0} → (words : List (List ℕ)) → Result A ℕ → (old new : Run S) → Type 0
+TakesSettings words (Ok settings) old new = (no_setting words ≡ None) × (new ≡ old)
+TakesSettings words (Err status) old new = (word : List ℕ) × (no_setting words ≡ Some word)
+    × Stops {A = Unit {0}} 2 (wrong_value_text verb.Producers (codes "--set") word) (Err status) old new
+
+-- ---- `extract`
+
+-- The command takes the section with this name of this file.
+abbrev pub IsSection : {S : Type 0} → (wanted name : List ℕ) → Result (Bor (List ℕ) × Bor (List ℕ)) ℕ
+    → (old new : Run S) → Type 0
+IsSection wanted name result old new = (section : Bor (List ℕ)) × (file : Bor (List ℕ))
+    × (result ≡ Ok (section, file)) × (section.now ≡ wanted) × (file.now ≡ name) × (new ≡ old)
+
+-- `extract` takes a name and at most one file, and without one standard input.
+abbrev pub TakesSection : {S : Type 0} → (operands : List (List ℕ)) → Result (Bor (List ℕ) × Bor (List ℕ)) ℕ
+    → (old new : Run S) → Type 0
+TakesSection [] = Stops 2 (about_word verb.Extract (codes "needs ") (codes "NAME") [])
+TakesSection (wanted ∷ []) = IsSection wanted (codes "-")
+TakesSection (wanted ∷ (name ∷ [])) = IsSection wanted name
+TakesSection (wanted ∷ (name ∷ (extra ∷ more))) = Stops 2 (extra_text verb.Extract extra)
+
+-- The wanted section comes after this many others with its name, or the value of `--index` was refused.
+abbrev pub TakesIndex : {S : Type 0} → (index : Option (Option (List ℕ))) → Result ℕ ℕ → (old new : Run S) → Type 0
+TakesIndex index (Ok skips) old new = Skips index (Some skips) × (new ≡ old)
+TakesIndex index (Err status) old new = Skips index None × Stops {A = Unit {0}} 2
+    (wrong_value_text verb.Extract (codes "--index") (value_text index)) (Err status) old new
+
+module _ {S I O : Type 0} (calls : SystemOf S I O) (sources : SourceOf I) (sinks : SinkOf O)
+    (target : Option (List ℕ)) where
+  -- These bytes were written, unless memory ran out before.
+  abbrev pub WritesSet : (bytes name : List ℕ) → Result (Unit {0}) ℕ → (old new : Run S) → Type 0
+  WritesSet bytes name =
+      Then Allots (λ (allotted : Unit {0}). WritesTo calls sources sinks bytes name target)
+
+  -- The stream was written with the new section in place of its first one with the name.
+  pub record ReplacesIn (new_section : NewSection) (name stream : List ℕ) (result : Result (Unit {0}) ℕ)
+      (old new : Run S) : Type 0 where
+    pub bytes : List ℕ
+    pub replaces : ReplacesFirst new_section stream bytes
+    pub writes : WritesSet bytes name result old new
+
+  -- The stream has no section with the name, and was written with the new one after its own.
+  pub record AppendsIn (new_section : NewSection) (name stream : List ℕ) (result : Result (Unit {0}) ℕ)
+      (old new : Run S) : Type 0 where
+    pub bytes : List ℕ
+    pub none : FindsFirst new_section.name.now stream (Ok None)
+    pub appends : IsEdited (edit.Append new_section ∷ []) stream bytes
+    pub writes : WritesSet bytes name result old new
+
+  -- The stream has this fault, and this was said.
+  pub record StopsIn (stream name : List ℕ) (result : Result (Unit {0}) ℕ) (old new : Run S) : Type 0 where
+    pub fault : Error
+    pub ends : EndsWithFault stream fault
+    pub stops : StopsAtFault name fault result old new
+
+  -- The section was set in a stream without a fault, or the fault was said.
+  abbrev pub SetsIn : (new_section : NewSection) (name stream : List ℕ) → Result (Unit {0}) ℕ → (old new : Run S)
+      → Type 0
+  SetsIn new_section name stream result old new = ReplacesIn new_section name stream result old new
+      ⊎ (AppendsIn new_section name stream result old new ⊎ StopsIn stream name result old new)
+
+  -- The section was set, or refused since it is too large.
+  abbrev pub SetsNew : (new_section : NewSection) (name stream : List ℕ) → Result (Unit {0}) ℕ → (old new : Run S)
+      → Type 0
+  SetsNew new_section name stream result old new =
+      (¬ Fits new_section × Stops 2 (too_large_text verb.Producers new_section.name.now) result old new)
+      ⊎ SetsIn new_section name stream result old new
+
+module _ {S I O : Type 0} (calls : SystemOf S I O) (sources : SourceOf I) (sinks : SinkOf O) (reads : List Read) where
   -- The sections of a file stay that are to be kept, and other custom sections are removed.
-  pub record StripsFile (name : List ℕ) (status : ℕ) : Type 0 where
+  pub record StripsFile (name : List ℕ) (result : Result (Unit {0}) ℕ) (old new : Run S) : Type 0 where
     pub keep : Keep
     pub kept : IsKept reads keep
-    pub changes : ChangesFile calls sources sinks system (edit.Keep keep ∷ []) name reads output forwarded errors status
-
-  -- `strip` takes at most one file, and without one reads standard input.
-  abbrev pub StripsOperands : (operands : List (List ℕ)) (status : ℕ) → Type 0
-  StripsOperands [] status = StripsFile (codes "-") status
-  StripsOperands (name ∷ []) status = StripsFile name status
-  StripsOperands (name ∷ (extra ∷ more)) status = RefusesWith (extra_text verb.Strip extra) output errors status
+    pub changes : Changes calls sources sinks (edit.Keep keep ∷ []) name (target_in reads) result old new
 
   -- | the command `strip`: the file or standard input, the sections that stay by `--keep`, `--only` and `--keep-names`,
   --   and where the stream is written
-  abbrev pub Strips : Result ℕ AllocError → Type 0
-  Strips result = IfAllocated (StripsOperands (operands_in reads)) output errors result
+  abbrev pub Strips : Result (Unit {0}) ℕ → (old new : Run S) → Type 0
+  Strips = Then Allots (λ (allotted : Unit {0}).
+      Then (TakesFile verb.Strip (operands_in reads)) (λ file. StripsFile file.now))
 
-  -- what was written of a section that was found, or said of one that was not
-  abbrev pub EndsExtract : (wanted name : List ℕ) → Result (Option Custom) Error → (status : ℕ) → Type 0
-  EndsExtract wanted name (Ok (Some section)) status = WritesBytesTo calls sources sinks system
-      (place section.reader).rest name (target_in reads) output forwarded errors status
-  EndsExtract wanted name (Ok None) status =
-      (status ≡ 1) × Says errors (missing_text verb.Extract name wanted) × IsUntouched output
-  EndsExtract wanted name (Err e) status = StopsAt name e errors status × IsUntouched output
+  -- what is written of a section that was found, or said of one that was not
+  abbrev pub EndsExtract : (wanted name : List ℕ) → Result (Option Custom) Error → Result (Unit {0}) ℕ
+      → (old new : Run S) → Type 0
+  EndsExtract wanted name (Ok (Some section)) =
+      WritesTo calls sources sinks (place section.reader).rest name (target_in reads)
+  EndsExtract wanted name (Ok None) = Stops 1 (missing_text verb.Extract name wanted)
+  EndsExtract wanted name (Err e) = StopsAtFault name e
 
-  -- The file was read, and the data of the section written, if it has it before its first fault.
-  pub record ExtractsHeld (wanted : List ℕ) (skips : ℕ) (name : List ℕ) (status : ℕ) : Type 0 where
-    pub stream : List ℕ
-    pub gave : Gave calls sources sinks system name stream
+  -- The data of the section were written, if the stream has it before its first fault.
+  pub record ExtractsFrom (wanted : List ℕ) (skips : ℕ) (name stream : List ℕ) (result : Result (Unit {0}) ℕ)
+      (old new : Run S) : Type 0 where
     pub found : Result (Option Custom) Error
     pub finds : FindsSection wanted skips stream found
-    pub ends : EndsExtract wanted name found status
-
-  abbrev pub ExtractsFrom : (wanted : List ℕ) (skips : ℕ) (name : List ℕ) (status : ℕ) → Type 0
-  ExtractsFrom wanted skips name status =
-      (CannotHold calls sources sinks system name errors status × IsUntouched output)
-      ⊎ ExtractsHeld wanted skips name status
-
-  abbrev pub ExtractsIf : (wanted : List ℕ) → (skips : Option ℕ) → (name : List ℕ) (status : ℕ) → Type 0
-  ExtractsIf wanted (Some skips) name status = ExtractsFrom wanted skips name status
-  ExtractsIf wanted None name status =
-      RefusesWith (wrong_value_text verb.Extract (codes "--index") (value_text (last_value option.Index None reads)))
-      output errors status
-
-  -- The section of this name was extracted from a file, or the value of `--index` refused.
-  pub record ExtractsFile (wanted name : List ℕ) (status : ℕ) : Type 0 where
-    pub skips : Option ℕ
-    pub index : Skips (last_value option.Index None reads) skips
-    pub extracts : ExtractsIf wanted skips name status
-
-  -- `extract` takes a name and at most one file, and without one reads standard input.
-  abbrev pub ExtractsOperands : (operands : List (List ℕ)) (status : ℕ) → Type 0
-  ExtractsOperands [] status =
-      RefusesWith (about_word verb.Extract (codes "needs ") (codes "NAME") []) output errors status
-  ExtractsOperands (wanted ∷ []) status = ExtractsFile wanted (codes "-") status
-  ExtractsOperands (wanted ∷ (name ∷ [])) status = ExtractsFile wanted name status
-  ExtractsOperands (wanted ∷ (name ∷ (extra ∷ more))) status =
-      RefusesWith (extra_text verb.Extract extra) output errors status
+    pub ends : EndsExtract wanted name found result old new
 
   -- | the command `extract`: the file or standard input, the section that is found by its name and `--index`, and where
   --   its data are written
-  abbrev pub Extracts : Result ℕ AllocError → Type 0
-  Extracts result = IfAllocated (ExtractsOperands (operands_in reads)) output errors result
+  abbrev pub Extracts : Result (Unit {0}) ℕ → (old new : Run S) → Type 0
+  Extracts = Then Allots (λ (allotted : Unit {0}). Then (TakesSection (operands_in reads)) (λ taken.
+      Then (TakesIndex (last_value option.Index None reads)) (λ skips. Then (Holds calls sources sinks taken.1.now)
+      (λ bytes. ExtractsFrom taken.0.now skips taken.1.now bytes.items))))
 
-  -- The stream was written with the new section in place of its first one with the name.
-  pub record ReplacesIn (new : NewSection) (name stream : List ℕ) (status : ℕ) : Type 0 where
-    pub result : List ℕ
-    pub replaces : ReplacesFirst new stream result
-    pub writes : WritesBytesTo calls sources sinks system result name (target_in reads) output forwarded errors status
+  -- The section was set to new data.
+  pub record SetsSection (name stream : List ℕ) (result : Result (Unit {0}) ℕ) (old new : Run S) : Type 0 where
+    pub new_section : NewSection
+    pub named : new_section.name.now ≡ codes "producers"
+    pub sets : SetsNew calls sources sinks (target_in reads) new_section name stream result old new
 
-  -- The stream has no section with the name, and was written with the new one after its own.
-  pub record AppendsIn (new : NewSection) (name stream : List ℕ) (status : ℕ) : Type 0 where
-    pub result : List ℕ
-    pub none : FindsFirst new.name.now stream (Ok None)
-    pub appends : IsEdited (edit.Append new ∷ []) stream result
-    pub writes : WritesBytesTo calls sources sinks system result name (target_in reads) output forwarded errors status
-
-  -- The stream has this fault, and this was said.
-  pub record StopsIn (stream name : List ℕ) (status : ℕ) : Type 0 where
-    pub fault : Error
-    pub ends : EndsWithFault stream fault
-    pub stops : StopsAt name fault errors status
-    pub sink : IsUntouched output
-
-  -- The section was set in a stream without a fault, or the fault was said.
-  abbrev pub SetsIn : (new : NewSection) (name stream : List ℕ) (status : ℕ) → Type 0
-  SetsIn new name stream status =
-      ReplacesIn new name stream status ⊎ (AppendsIn new name stream status ⊎ StopsIn stream name status)
-
-  -- The section was set to new data, or refused since it is too large.
-  pub record SetsSection (name stream : List ℕ) (status : ℕ) : Type 0 where
-    pub new : NewSection
-    pub named : new.name.now ≡ codes "producers"
-    pub sets : (¬ Fits new × RefusesWith (too_large_text verb.Producers new.name.now) output errors status)
-        ⊎ SetsIn new name stream status
-
-  abbrev pub EndsSetting : {A : Type 0} → (name stream : List ℕ) → Result A Error → (status : ℕ) → Type 0
-  EndsSetting name stream (Ok new) status = SetsSection name stream status
-  EndsSetting name stream (Err e) status = StopsAt name e errors status × IsUntouched output
-
-  -- The file was read, its first section with producers looked for, and set.
-  pub record SetsHeld (name : List ℕ) (status : ℕ) : Type 0 where
-    pub stream : List ℕ
-    pub gave : Gave calls sources sinks system name stream
+  -- The first section with producers was looked for and changed, or has a fault.
+  pub record SetsHeld (name stream : List ℕ) (result : Result (Unit {0}) ℕ) (old new : Run S) : Type 0 where
     pub change : Result (Vec ℕ Global) Error
     pub finds : FindsChange stream change
-    pub ends : EndsSetting name stream change status
-
-  abbrev pub SetsFile : (name : List ℕ) (status : ℕ) → Type 0
-  SetsFile name status =
-      (CannotHold calls sources sinks system name errors status × IsUntouched output) ⊎ SetsHeld name status
-
-  -- `producers --set` takes at most one file, and without one reads standard input.
-  abbrev pub SetsOperands : (operands : List (List ℕ)) (status : ℕ) → Type 0
-  SetsOperands [] status = SetsFile (codes "-") status
-  SetsOperands (name ∷ []) status = SetsFile name status
-  SetsOperands (name ∷ (extra ∷ more)) status = RefusesWith (extra_text verb.Producers extra) output errors status
-
-  abbrev pub SetsIf : Option (List ℕ) → (status : ℕ) → Type 0
-  SetsIf (Some word) status =
-      RefusesWith (wrong_value_text verb.Producers (codes "--set") word) output errors status
-  SetsIf None status = SetsOperands (operands_in reads) status
+    pub ends : Then (IsSound name change) (λ changed. SetsSection name stream) result old new
 
   -- | the command `producers --set`: the file or standard input, the section that is set, and where the stream is
   --   written. The new data of the section are not stated
-  abbrev pub SetsProducers : Result ℕ AllocError → Type 0
-  SetsProducers result = IfAllocated (SetsIf (no_setting (values_in option.Set reads))) output errors result
+  abbrev pub SetsProducers : Result (Unit {0}) ℕ → (old new : Run S) → Type 0
+  SetsProducers = Then Allots (λ (allotted : Unit {0}). Then (TakesSettings (values_in option.Set reads))
+      (λ (settings : Unit {0}). Then Allots (λ (again : Unit {0}). Then (TakesFile verb.Producers (operands_in reads))
+      (λ file. Then (Holds calls sources sinks file.now) (λ bytes. Then Allots (λ (made : Unit {0}).
+      SetsHeld file.now bytes.items))))))
 
 -- ---- `add`
 
 abbrev pub no_data_text : (word : List ℕ) → List ℕ
 no_data_text word = about_word verb.Add (codes "'") word (codes "' is not NAME=DATA")
 
-module _ {S I O : Type 0} (calls : SystemOf S I O) (sources : SourceOf I) (sinks : SinkOf O) (system : S)
-    (reads : List Read) (output : Device) (forwarded : Bool) (errors : Device) where
+abbrev pub few_text : List ℕ
+few_text = about_word verb.Add (codes "needs ") (codes "NAME=DATA and FILE") []
+
+-- Standard input is asked for more than once, or these additions and this file were taken.
+abbrev pub TakesOnce : {S : Type 0} → (again : Bool) → (additions : List (List ℕ × List ℕ)) (file : List ℕ)
+    → Result (Vec Addition Global × Bor (List ℕ)) ℕ → (old new : Run S) → Type 0
+TakesOnce true additions file result old new = Stops 2 input_twice_text result old new
+TakesOnce false additions file result old new = (taken : Vec Addition Global × Bor (List ℕ)) × (result ≡ Ok taken)
+    × (map parts_of taken.0.items ≡ additions) × (taken.1.now ≡ file) × (new ≡ old)
+
+-- by the first word that has no `=`
+abbrev pub TakesWords : {S : Type 0} → (refused : Option (List ℕ)) → (words : List (List ℕ)) (file : List ℕ)
+    → Result (Vec Addition Global × Bor (List ℕ)) ℕ → (old new : Run S) → Type 0
+TakesWords (Some word) words file = Stops 2 (no_data_text word)
+TakesWords None words file =
+    TakesOnce (is_asked_again (is_input file) (map added_in words)) (map added_in words) file
+
+-- The last operand is the file, and those before it are the sections.
+pub record TakesOperands {S : Type 0} (operands : List (List ℕ)) (result : Result (Vec Addition Global × Bor (List ℕ)) ℕ)
+    (old new : Run S) : Type 0 where
+  pub words : List (List ℕ)
+  pub file : List ℕ
+  pub are : operands ≡ words ++ file ∷ []
+  pub some : 0 < length words
+  pub takes : Then Allots (λ (allotted : Unit {0}). TakesWords (no_addition words) words file) result old new
+
+-- `add` takes sections and a file, of which at most one is standard input.
+abbrev pub TakesAdditions : {S : Type 0} → (operands : List (List ℕ))
+    → Result (Vec Addition Global × Bor (List ℕ)) ℕ → (old new : Run S) → Type 0
+TakesAdditions operands result old new = ((length operands < 2) × Stops 2 few_text result old new)
+    ⊎ TakesOperands operands result old new
+
+module _ {S I O : Type 0} (calls : SystemOf S I O) (sources : SourceOf I) (sinks : SinkOf O)
+    (target : Option (List ℕ)) where
   -- The stream was written with these edits, or they were refused since a section is too large.
-  abbrev pub WritesAdded : (edits : List Edit) (original : Original) (status : ℕ) → Type 0
-  WritesAdded edits original status =
-      ((¬ All CanBeMade edits)
-      × (name : List ℕ) × RefusesWith (too_large_text verb.Add name) output errors status)
-      ⊎ WritesTo calls sources sinks system edits original (target_in reads) output forwarded errors status
+  abbrev pub WritesAdded : (edits : List Edit) (original : Original) → Result (Unit {0}) ℕ → (old new : Run S) → Type 0
+  WritesAdded edits original result old new =
+      ((¬ All CanBeMade edits) × (name : List ℕ) × Stops 2 (too_large_text verb.Add name) result old new)
+      ⊎ EditsTo calls sources sinks edits original target result old new
 
   -- Each section is added by one edit, in order.
-  pub record AddsBy (is_added : List ℕ × List ℕ → Edit → Type 0) (loaded : List (List ℕ × List ℕ))
-      (original : Original) (status : ℕ) : Type 0 where
+  pub record AddsEach (is_added : List ℕ × List ℕ → Edit → Type 0) (loaded : List (List ℕ × List ℕ))
+      (original : Original) (result : Result (Unit {0}) ℕ) (old new : Run S) : Type 0 where
     pub edits : List Edit
     pub each : EachInTurn is_added loaded edits
-    pub writes : WritesAdded edits original status
+    pub writes : WritesAdded edits original result old new
+
+  abbrev pub AddsBy : (is_added : List ℕ × List ℕ → Edit → Type 0) (loaded : List (List ℕ × List ℕ))
+      (original : Original) → Result (Unit {0}) ℕ → (old new : Run S) → Type 0
+  AddsBy is_added loaded original = Then Allots (λ (allotted : Unit {0}). AddsEach is_added loaded original)
 
   -- The stream has its first fault before one of the sections that are looked for, and this was said.
-  pub record FindsFault (file stream : List ℕ) (status : ℕ) : Type 0 where
+  pub record FindsFault (file stream : List ℕ) (result : Result (Unit {0}) ℕ) (old new : Run S) : Type 0 where
     pub name : List ℕ
     pub fault : Error
     pub finds : FindsSection name 0 stream (Err fault)
-    pub refuses : StopsAt file fault errors status
-    pub sink : IsUntouched output
+    pub stops : StopsAtFault file fault result old new
 
   -- The sections are added to a stream in memory. Those whose name it has are replaced.
-  abbrev pub AddsHeld : (stream : List ℕ) (loaded : List (List ℕ × List ℕ)) (original : Original) (status : ℕ) → Type 0
-  AddsHeld stream loaded original status =
-      AddsBy (IsAddedTo stream) loaded original status ⊎ FindsFault original.name.now stream status
+  abbrev pub AddsHeld : (stream : List ℕ) (loaded : List (List ℕ × List ℕ)) (original : Original)
+      → Result (Unit {0}) ℕ → (old new : Run S) → Type 0
+  AddsHeld stream loaded original = Then Allots (λ (allotted : Unit {0}) result old new.
+      AddsEach (IsAddedTo stream) loaded original result old new ⊎ FindsFault original.name.now stream result old new)
 
-module _ {S I O : Type 0} (calls : SystemOf S I O) (sources : SourceOf I) (sinks : SinkOf O) (system : S)
-    (reads : List Read) (output : Device) (forwarded : Bool) (errors : Device) where
-  -- The file was searched, read to its end and then written with the sections. Nothing is said of the output during the
-  -- search.
-  pub record AddsFound (loaded : List (List ℕ × List ℕ)) (name : List ℕ) (status : ℕ) : Type 0 where
-    pub opened : I
-    pub opens : calls.opens system name (Ok opened)
-    pub middle : Option (List ℕ)
-    pub failed : Bool
+  -- The file was searched, read to its end and then written with the sections.
+  pub record AddsFound (loaded : List (List ℕ × List ℕ)) (name : List ℕ) (result : Result (Unit {0}) ℕ)
+      (old new : Run S) : Type 0 where
     pub original : Original
     pub named : original.name.now ≡ name
     pub checked : original.is_checked ≡ true
     pub held : original.held ≡ None
-    pub adds : AddsBy calls sources sinks system reads (record output { before = middle; had_failed = failed })
-        forwarded errors IsAdded loaded original status
-
-  -- The file was searched and written, or the search failed or found the fault of the stream.
-  abbrev pub AddsSearched : (loaded : List (List ℕ × List ℕ)) (name : List ℕ) (status : ℕ) → Type 0
-  AddsSearched loaded name status =
-      ((¬ (status ≡ 0)) × Searches calls sources sinks system name errors status)
-      ⊎ AddsFound loaded name status
+    pub adds : AddsBy IsAdded loaded original result old new
 
   -- with `--replace`, by what is held of the stream
   abbrev pub AddsReplaced : (loaded : List (List ℕ × List ℕ)) (original : Original) → Option (Vec ℕ Global)
-      → (status : ℕ) → Type 0
-  AddsReplaced loaded original (Some held) status =
-      AddsHeld calls sources sinks system reads output forwarded errors held.items loaded original status
-  AddsReplaced loaded original None status = AddsSearched loaded original.name.now status
+      → Result (Unit {0}) ℕ → (old new : Run S) → Type 0
+  AddsReplaced loaded original (Some held) = AddsHeld held.items loaded original
+  AddsReplaced loaded original None =
+      Then (Searches calls sources sinks original.name.now) (λ (found : Unit {0}). AddsFound loaded original.name.now)
 
-  abbrev pub AddsLoaded : (replaces : Bool) → (loaded : List (List ℕ × List ℕ)) (original : Original) (status : ℕ)
+  abbrev pub AddsLoaded : (replaces : Bool) → (loaded : List (List ℕ × List ℕ)) (original : Original)
+      → Result (Unit {0}) ℕ → (old new : Run S) → Type 0
+  AddsLoaded false loaded original = AddsBy (IsAddedBy false) loaded original
+  AddsLoaded true loaded original = AddsReplaced loaded original original.held
+
+-- these are what was prepared
+abbrev pub IsPrepared : {S : Type 0} → Vec Loaded Global → Original → Result (Vec Loaded Global × Original) ℕ
+    → (old new : Run S) → Type 0
+IsPrepared loaded original result old new = (result ≡ Ok (loaded, original)) × (new ≡ old)
+
+module _ {S I O : Type 0} (calls : SystemOf S I O) (sources : SourceOf I) (sinks : SinkOf O) where
+  -- The data of all sections were read, and then the stream to which they are added.
+  abbrev pub Prepares : (operands : List (List ℕ)) → Result (Vec Loaded Global × Original) ℕ → (old new : Run S)
       → Type 0
-  AddsLoaded false loaded original status =
-      AddsBy calls sources sinks system reads output forwarded errors (IsAddedBy false) loaded original status
-  AddsLoaded true loaded original status = AddsReplaced loaded original original.held status
-
-  -- The stream was found, and written with the sections.
-  pub record AddsOriginal (loaded : List (List ℕ × List ℕ)) (file : List ℕ) (status : ℕ) : Type 0 where
-    pub original : Original
-    pub found : IsOriginal calls sources sinks system file original
-    pub adds : AddsLoaded (has_option option.Replace reads) loaded original status
-
-  abbrev pub AddsRead : (loaded : List (List ℕ × List ℕ)) (file : List ℕ) (status : ℕ) → Type 0
-  AddsRead loaded file status =
-      (CannotHold calls sources sinks system file errors status × IsUntouched output) ⊎ AddsOriginal loaded file status
-
-  -- The data of all sections was read, and then the stream.
-  pub record AddsData (additions : List (List ℕ × List ℕ)) (file : List ℕ) (status : ℕ) : Type 0 where
-    pub loaded : List (List ℕ × List ℕ)
-    pub loads : EachInTurn (IsLoaded calls sources sinks system) additions loaded
-    pub adds : AddsRead loaded file status
-
-  abbrev pub AddsAll : (additions : List (List ℕ × List ℕ)) (file : List ℕ) (status : ℕ) → Type 0
-  AddsAll additions file status =
-      (CannotLoad calls sources sinks system additions errors status × IsUntouched output)
-      ⊎ AddsData additions file status
-
-  -- by whether standard input is asked for more than once
-  abbrev pub AddsOnce : (again : Bool) → (additions : List (List ℕ × List ℕ)) (file : List ℕ) (status : ℕ) → Type 0
-  AddsOnce true additions file status = RefusesWith input_twice_text output errors status
-  AddsOnce false additions file status = AddsAll additions file status
-
-  abbrev pub AddsWords : (refused : Option (List ℕ)) → (words : List (List ℕ)) (file : List ℕ) (status : ℕ) → Type 0
-  AddsWords (Some word) words file status = RefusesWith (no_data_text word) output errors status
-  AddsWords None words file status =
-      AddsOnce (is_asked_again (is_input file) (map added_in words)) (map added_in words) file status
-
-  -- The last operand is the file, and those before it are the sections.
-  pub record AddsOperands (operands : List (List ℕ)) (status : ℕ) : Type 0 where
-    pub words : List (List ℕ)
-    pub file : List ℕ
-    pub are : operands ≡ words ++ file ∷ []
-    pub some : 0 < length words
-    pub adds : AddsWords (no_addition words) words file status
-
-  abbrev pub few_text : List ℕ
-  few_text = about_word verb.Add (codes "needs ") (codes "NAME=DATA and FILE") []
+  Prepares operands = Then Allots (λ (allotted : Unit {0}). Then (TakesAdditions operands) (λ taken.
+      Then (LoadsAll calls sources sinks (map parts_of taken.0.items)) (λ loaded.
+      Then (Finds calls sources sinks taken.1.now) (λ original. IsPrepared loaded original))))
 
   -- | the command `add`: the sections and the files with their data, the file or standard input to which they are
-  --   added, and where the stream is written [`AddsOperands`, `AddsLoaded`, `AddsBy`]
-  abbrev pub Adds : Result ℕ AllocError → Type 0
-  Adds result = IfAdded (λ status. ((length (operands_in reads) < 2) × RefusesWith few_text output errors status)
-      ⊎ AddsOperands (operands_in reads) status) errors result
+  --   added, and where the stream is written [`Prepares`, `AddsLoaded`, `AddsBy`]
+  abbrev pub Adds : List Read → Result (Unit {0}) ℕ → (old new : Run S) → Type 0
+  Adds reads = Then (Prepares (operands_in reads)) (λ prepared. AddsLoaded calls sources sinks (target_in reads)
+      (has_option option.Replace reads) (map loaded_parts prepared.0.items) prepared.1)

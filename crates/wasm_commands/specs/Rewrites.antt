@@ -1,7 +1,6 @@
 -- What the commands that write a stream do: which files they open, what they write of them, and which file is replaced.
-use Rattle.std.specs.Prelude.{◌≡◌, ◌⊎◌, ℕ, Bool, true, false, List, take, codes, bytes_eq, Option, Some, None, Vec}
-use Rattle.std.specs.Prelude.{Result}
-use Rattle.std.specs.Prelude.{Ok, Err, if◌then◌else◌}
+use Rattle.std.specs.Prelude.{◌≡◌, ◌⊎◌, ℕ, Bool, true, false, List, take, codes, bytes_eq, Option, Some, None}
+use Rattle.std.specs.Prelude.{Vec, Result, Ok, Err, if◌then◌else◌}
 use Rattle.std.specs.Io.KnownBytes.{Appends, Consumes, IsAtEnd, Keeps}
 use Rattle.std.specs.declared.alloc.Global.{Global}
 use Rattle.wasm_grammar.specs.Accepted.{IsAccepted}
@@ -21,27 +20,20 @@ use Rattle.wasm_console.specs.Devices.{IsUntouched}
 use Rattle.wasm_console.specs.Strips.{ReadsAll}
 use Rattle.wasm_commands.specs.ArgumentLists.{Read, last_value}
 use Rattle.wasm_commands.specs.EditsTwice.{EditsTwice}
-use Rattle.wasm_commands.specs.Messages.{StopsAt, file_text, reason_if_any}
-use Rattle.wasm_commands.specs.Reasons.{reason_of}
-use Rattle.wasm_commands.specs.Systems.{FailsOn, GivesUp}
-use Rattle.wasm_commands.specs.declared.messages.Causes.{Causes}
+use Rattle.wasm_commands.specs.Runs.{Fails, FailsToWrite, RefusesFor, Run, StopsAtFault, Then, output_of}
 use Rattle.wasm_commands.specs.declared.options.Flag.TheVariants as option
 use Rattle.wasm_commands.specs.declared.reasons.Cause.{Cause}
 use Rattle.wasm_commands.specs.declared.rewriting.Original.{Original}
 use Rattle.wasm_commands.specs.declared.system.System.{Ghosts as SystemOf}
 
--- ---- how a run ends, and what it says
+-- ---- how a run over a stream ends
 
--- The file that is written failed. The system may have said why.
-pub record FailsTarget (target : List ℕ) (errors : Device) (status : ℕ) : Type 0 where
-  pub causes : Causes
-  pub gives_up : GivesUp (file_text target (reason_if_any causes.output)) errors status
-
--- what a run over a stream says, and its status: 0 at the end of the stream, 1 at its fault, 3 if the run failed
-abbrev pub EndsRun : (name : List ℕ) → Result Ended ListError → (errors : Device) (status : ℕ) → Type 0
-EndsRun name (Ok End) errors status = (status ≡ 0) × IsUntouched errors
-EndsRun name (Ok (Fault e)) errors status = StopsAt name e errors status
-EndsRun name (Err why) errors status = FailsOn name why errors status
+-- The command goes on after the end of a stream, and stops at its fault, or if the run failed.
+abbrev pub EndsRun : {S : Type 0} → (name : List ℕ) → Result Ended ListError → Result (Unit {0}) ℕ → (old new : Run S)
+    → Type 0
+EndsRun name (Ok End) result old new = (result ≡ Ok tt) × (new ≡ old)
+EndsRun name (Ok (Fault e)) result old new = StopsAtFault name e result old new
+EndsRun name (Err why) result old new = Fails name why result old new
 
 -- At the end of a stream the output was flushed, or failed. After a fault or a failure nothing is done.
 abbrev pub FlushesAtEnd : Result Ended ListError → (output : Device) (forwarded : Bool) → Result Ended ListError
@@ -73,6 +65,14 @@ pub record EditsHeld (edits : List Edit) (stream : List ℕ) (output : Device) (
     pub writes : WritesHeld edits stream (bytes_of output) how
     pub sink : output.has_failed ≡ output_failed how output.had_failed
 
+-- | all of a stream that was written with edits: below 2^64 bytes it is accepted, and these are the bytes of the edited
+--   one
+-- All of the stream was written with the edits.
+pub record WritesAll (edits : List Edit) (stream : List ℕ) (output : Device) : Type 0 where
+  pub bytes : List ℕ
+  pub is_edited : Stream stream 0 → IsEdited edits stream bytes
+  pub wrote : Appends output.before output.after bytes
+
 -- ---- bytes that are written as they are
 
 -- The bytes were written, or a prefix of them since the device failed.
@@ -82,51 +82,35 @@ WritesBytes bytes output true =
 WritesBytes bytes output false =
     ((n : ℕ) × Appends output.before output.after (take n bytes)) × (output.has_failed ≡ true)
 
--- what is said of bytes that were written to a file
-abbrev pub EndsBytes : (target : List ℕ) → (is_complete : Bool) → (errors : Device) (status : ℕ) → Type 0
-EndsBytes target true errors status = (status ≡ 0) × IsUntouched errors
-EndsBytes target false errors status = FailsTarget target errors status
+-- Nothing was done but to the output.
+pub record OnlyWrites {S : Type 0} (old new : Run S) : Type 0 where
+  pub system : new.system ≡ old.system
+  pub said : new.said ≡ old.said
 
 -- The bytes were written to the output and flushed, or the output failed.
 pub record ForwardsBytes (bytes : List ℕ) (output : Device) (forwarded : Bool) (is_complete : Bool) : Type 0 where
   pub writes : WritesBytes bytes output is_complete
   pub all : is_complete ≡ true → forwarded ≡ true
 
--- what is said of bytes that were written to the output
-abbrev pub EndsBytesOut : (is_complete : Bool) → (errors : Device) (status : ℕ) → Type 0
-EndsBytesOut true errors status = (status ≡ 0) × IsUntouched errors
-EndsBytesOut false errors status = FailsOn (codes "-") Output errors status
+-- the command goes on after all of them, and stops if the output failed
+abbrev pub EndsBytes : {S : Type 0} → (is_complete : Bool) → Result (Unit {0}) ℕ → (old new : Run S) → Type 0
+EndsBytes true result old new = (result ≡ Ok tt) × (new ≡ old)
+EndsBytes false result old new = Fails (codes "-") Output result old new
 
+-- | bytes that are written to the output and flushed; or the output fails, which is said
 -- The bytes were written to the output and flushed, or the output failed, and this was said.
-pub record WritesBytesOut (bytes : List ℕ) (output : Device) (forwarded : Bool) (errors : Device) (status : ℕ) : Type 0
-  where
-    pub is_complete : Bool
-    pub forwards : ForwardsBytes bytes output forwarded is_complete
-    pub says : EndsBytesOut is_complete errors status
+pub record WritesOut {S : Type 0} (bytes : List ℕ) (result : Result (Unit {0}) ℕ) (old new : Run S) : Type 0 where
+  pub is_complete : Bool
+  pub middle : Run S
+  pub forwards : ForwardsBytes bytes (output_of old middle) middle.forwarded is_complete
+  pub only : OnlyWrites old middle
+  pub ends : EndsBytes is_complete result middle new
 
--- | all of a stream that was written with edits: below 2^64 bytes it is accepted, and these are the bytes of the edited
---   one
--- All of the stream was written with the edits.
-pub record WritesAll (edits : List Edit) (stream : List ℕ) (output : Device) : Type 0 where
-  pub bytes : List ℕ
-  pub is_edited : Stream stream 0 → IsEdited edits stream bytes
-  pub wrote : Appends output.before output.after bytes
-
--- ---- the output
-
--- What was written was flushed at its end, and this was said.
-pub record Forwards (name : List ℕ) (how : Result Ended ListError) (output : Device) (forwarded : Bool)
-    (errors : Device) (status : ℕ) : Type 0 where
-  pub flushed : Result Ended ListError
-  pub keeps : Keeps output.before output.after
-  pub flushes : FlushesAtEnd how output forwarded flushed
-  pub ends : EndsRun name flushed errors status
-
-abbrev pub EndsOutput : (name : List ℕ) → Result (Result Ended ListError) Cause → (output : Device)
-    (forwarded : Bool) (errors : Device) (status : ℕ) → Type 0
-EndsOutput name (Ok how) output forwarded errors status = Forwards name how output forwarded errors status
-EndsOutput name (Err cause) output forwarded errors status =
-    IsUntouched output × GivesUp (file_text name (reason_of cause)) errors status
+-- what a command does after it has written bytes to a file
+abbrev pub EndsTarget : {S : Type 0} → (target : List ℕ) → (is_complete : Bool) → Result (Unit {0}) ℕ
+    → (old new : Run S) → Type 0
+EndsTarget target true result old new = (result ≡ Ok tt) × (new ≡ old)
+EndsTarget target false result old new = FailsToWrite target result old new
 
 -- ---- the file that is written
 
@@ -137,20 +121,14 @@ is_whole (Ok (Ok (Fault e))) = false
 is_whole (Ok (Err why)) = false
 is_whole (Err cause) = false
 
--- what is said of a stream that was written to a file
-abbrev pub EndsFile : (name target : List ℕ) → Result (Result Ended ListError) Cause → (errors : Device)
-    (status : ℕ) → Type 0
-EndsFile name target (Ok (Ok how)) errors status = EndsRun name (Ok how) errors status
-EndsFile name target (Ok (Err Input)) errors status = FailsOn name Input errors status
-EndsFile name target (Ok (Err Memory)) errors status = FailsOn name Memory errors status
-EndsFile name target (Ok (Err Output)) errors status = FailsTarget target errors status
-EndsFile name target (Err cause) errors status = GivesUp (file_text name (reason_of cause)) errors status
-
--- what is said of a file that was to be replaced, and the status, which was `first` before
-abbrev pub TargetEnds : (target : List ℕ) → Result (Unit {0}) Cause → (first : ℕ) (errors : Device) (status : ℕ)
-    → Type 0
-TargetEnds target (Ok done) first errors status = (status ≡ first) × IsUntouched errors
-TargetEnds target (Err cause) first errors status = GivesUp (file_text target (reason_of cause)) errors status
+-- what a command does after it has written a stream to a file
+abbrev pub EndsFile : {S : Type 0} → (name target : List ℕ) → Result (Result Ended ListError) Cause
+    → Result (Unit {0}) ℕ → (old new : Run S) → Type 0
+EndsFile name target (Ok (Ok how)) result old new = EndsRun name (Ok how) result old new
+EndsFile name target (Ok (Err Input)) result old new = Fails name Input result old new
+EndsFile name target (Ok (Err Memory)) result old new = Fails name Memory result old new
+EndsFile name target (Ok (Err Output)) result old new = FailsToWrite target result old new
+EndsFile name target (Err cause) result old new = RefusesFor name cause result old new
 
 -- the file that the last value of `--output` names, where `-` is the output
 abbrev pub file_named : Option (Option (List ℕ)) → Option (List ℕ)
@@ -163,69 +141,67 @@ target_in reads = file_named (last_value option.Output None reads)
 
 -- ---- the files of a system, by what its calls may return
 
-module _ {S I O : Type 0} (calls : SystemOf S I O) (sources : SourceOf I) (sinks : SinkOf O) (system : S) where
+module _ {S I O : Type 0} (calls : SystemOf S I O) (sources : SourceOf I) (sinks : SinkOf O) where
   abbrev pub input_device : (opened rest : I) → Device
   input_device opened rest = device_of sources.remaining sources.has_failed opened rest
 
-  -- The file could not be opened, and this was said.
-  pub record CannotOpen (name : List ℕ) (errors : Device) (status : ℕ) : Type 0 where
-    pub cause : Cause
-    pub opens : calls.opens system name (Err cause)
-    pub gives_up : GivesUp (file_text name (reason_of cause)) errors status
-
-  -- The file was opened, but reading all of it failed, or an allocation.
-  pub record CannotRead (name : List ℕ) (errors : Device) (status : ℕ) : Type 0 where
-    pub opened : I
-    pub rest : I
-    pub why : ListError
-    pub opens : calls.opens system name (Ok opened)
-    pub reads : ReadsAll {A = Global} (sources.remaining opened) (sources.remaining rest) (Err why)
-    pub fails : FailsOn name why errors status
-
-  abbrev pub CannotHold : (name : List ℕ) (errors : Device) (status : ℕ) → Type 0
-  CannotHold name errors status = CannotOpen name errors status ⊎ CannotRead name errors status
+  -- | a file that is opened, or refused with the system's reason
+  -- The file was opened, or it was said why not.
+  abbrev pub Opens : (name : List ℕ) → Result I ℕ → (old new : Run S) → Type 0
+  Opens name (Ok input) old new = calls.opens old.system name (Ok input) × (new ≡ old)
+  Opens name (Err status) old new = (cause : Cause) × calls.opens old.system name (Err cause)
+      × RefusesFor {A = Unit {0}} name cause (Err status) old new
 
   -- The file was opened, and these are all bytes that it had.
-  pub record Gave (name bytes : List ℕ) : Type 0 where
+  pub record Gave (system : S) (name bytes : List ℕ) : Type 0 where
     pub opened : I
     pub rest : I
     pub opens : calls.opens system name (Ok opened)
     pub gave : Consumes (sources.remaining opened) (sources.remaining rest) bytes
     pub at_end : IsAtEnd (sources.remaining rest)
 
-  -- | a file that is read into memory
-  -- The file was read into memory, or could not be.
-  abbrev pub Holds : (name : List ℕ) → Result (Vec ℕ Global) ℕ → (errors : Device) → Type 0
-  Holds name (Ok bytes) errors = Gave name bytes.items × IsUntouched errors
-  Holds name (Err status) errors = CannotHold name errors status
+  -- The file was opened, but reading all of it failed, or an allocation.
+  pub record CannotRead (name : List ℕ) (status : ℕ) (old new : Run S) : Type 0 where
+    pub opened : I
+    pub rest : I
+    pub why : ListError
+    pub opens : calls.opens old.system name (Ok opened)
+    pub reads : ReadsAll {A = Global} (sources.remaining opened) (sources.remaining rest) (Err why)
+    pub fails : Fails {A = Unit {0}} name why (Err status) old new
 
-  -- what is held of a stream that is to be changed: nothing if it can be read again, else all of it
-  abbrev pub IsHeld : (name : List ℕ) → Option (Vec ℕ Global) → Type 0
-  IsHeld name None = calls.rereads system name true
-  IsHeld name (Some held) = calls.rereads system name false × Gave name held.items
+  -- | a file that is read into memory
+  -- The file was read into memory, or could not be opened, or not be read.
+  abbrev pub Holds : (name : List ℕ) → Result (Vec ℕ Global) ℕ → (old new : Run S) → Type 0
+  Holds name (Ok bytes) old new = Gave old.system name bytes.items × (new ≡ old)
+  Holds name (Err status) old new = Opens name (Err status) old new ⊎ CannotRead name status old new
 
   -- the stream of a file, of which nothing was checked yet
   pub record IsOriginal (name : List ℕ) (original : Original) : Type 0 where
     pub named : original.name.now ≡ name
     pub unchecked : original.is_checked ≡ false
-    pub held : IsHeld name original.held
 
+  -- what is held of a stream that is to be changed: nothing if it can be read again, else all of it
+  abbrev pub IsHeld : (name : List ℕ) → Option (Vec ℕ Global) → (old new : Run S) → Type 0
+  IsHeld name None old new = calls.rereads old.system name true × (new ≡ old)
+  IsHeld name (Some held) old new = calls.rereads old.system name false × Holds name (Ok held) old new
+
+  -- | the stream that is to be changed: a file that can be read again, or what was read of another one
   -- The stream to change was found, or could not be read.
-  abbrev pub Finds : (name : List ℕ) → Result Original ℕ → (errors : Device) → Type 0
-  Finds name (Ok original) errors = IsOriginal name original × IsUntouched errors
-  Finds name (Err status) errors = calls.rereads system name false × CannotHold name errors status
+  abbrev pub Finds : (name : List ℕ) → Result Original ℕ → (old new : Run S) → Type 0
+  Finds name (Ok original) old new = IsOriginal name original × IsHeld name original.held old new
+  Finds name (Err status) old new = calls.rereads old.system name false × Holds name (Err status) old new
 
   -- The file was opened once, and read while it was written with edits.
-  pub record EditsOpened (edits : List Edit) (name : List ℕ) (output : Device) (how : Result Ended ListError) : Type 0
-    where
-      pub opened : I
-      pub rest : I
-      pub opens : calls.opens system name (Ok opened)
-      pub writes : EditsSource edits (input_device opened rest) output how
+  pub record EditsOpened (system : S) (edits : List Edit) (name : List ℕ) (output : Device)
+      (how : Result Ended ListError) : Type 0 where
+    pub opened : I
+    pub rest : I
+    pub opens : calls.opens system name (Ok opened)
+    pub writes : EditsSource edits (input_device opened rest) output how
 
   -- The file was opened twice: it was read to be checked, and again while it was written with edits.
-  pub record EditsReopened (edits : List Edit) (name : List ℕ) (output : Device) (how : Result Ended ListError)
-      : Type 0 where
+  pub record EditsReopened (system : S) (edits : List Edit) (name : List ℕ) (output : Device)
+      (how : Result Ended ListError) : Type 0 where
     pub first : I
     pub first_rest : I
     pub second : I
@@ -235,136 +211,139 @@ module _ {S I O : Type 0} (calls : SystemOf S I O) (sources : SourceOf I) (sinks
     pub writes : EditsTwice edits (input_device first first_rest) (input_device second second_rest) output how
 
   -- a file that was opened, by whether it was checked before
-  abbrev pub EditsFile : (edits : List Edit) (name : List ℕ) (is_checked : Bool) (output : Device)
+  abbrev pub EditsFile : (system : S) (edits : List Edit) (name : List ℕ) (is_checked : Bool) (output : Device)
       → Result Ended ListError → Type 0
-  EditsFile edits name true output how = EditsOpened edits name output how
-  EditsFile edits name false output how = EditsReopened edits name output how
+  EditsFile system edits name true output how = EditsOpened system edits name output how
+  EditsFile system edits name false output how = EditsReopened system edits name output how
 
   -- a stream that is edited, by what is held of it
-  abbrev pub EditsBy : (edits : List Edit) (original : Original) → Option (Vec ℕ Global) → (output : Device)
-      → Result Ended ListError → Type 0
-  EditsBy edits original (Some held) output how = EditsHeld edits held.items output how
-  EditsBy edits original None output how = EditsFile edits original.name.now original.is_checked output how
+  abbrev pub EditsBy : (system : S) (edits : List Edit) (original : Original) → Option (Vec ℕ Global)
+      → (output : Device) → Result Ended ListError → Type 0
+  EditsBy system edits original (Some held) output how = EditsHeld edits held.items output how
+  EditsBy system edits original None output how =
+      EditsFile system edits original.name.now original.is_checked output how
 
   -- The file was opened, and these are bytes that it gave.
-  pub record GaveSome (name bytes : List ℕ) : Type 0 where
+  pub record GaveSome (system : S) (name bytes : List ℕ) : Type 0 where
     pub opened : I
     pub rest : I
     pub opens : calls.opens system name (Ok opened)
     pub gave : Consumes (sources.remaining opened) (sources.remaining rest) bytes
 
   -- these are the bytes of a stream, by what is held of it
-  abbrev pub IsStreamOf : (name : List ℕ) → Option (Vec ℕ Global) → (stream : List ℕ) → Type 0
-  IsStreamOf name (Some held) stream = stream ≡ held.items
-  IsStreamOf name None stream = GaveSome name stream
+  abbrev pub IsStreamOf : (system : S) (name : List ℕ) → Option (Vec ℕ Global) → (stream : List ℕ) → Type 0
+  IsStreamOf system name (Some held) stream = stream ≡ held.items
+  IsStreamOf system name None stream = GaveSome system name stream
 
   -- All of the stream was written with the edits.
-  pub record IsWritten (edits : List Edit) (original : Original) (output : Device) : Type 0 where
+  pub record IsWritten (system : S) (edits : List Edit) (original : Original) (output : Device) : Type 0 where
     pub stream : List ℕ
-    pub given : IsStreamOf original.name.now original.held stream
+    pub given : IsStreamOf system original.name.now original.held stream
     pub written : WritesAll edits stream output
 
   -- | a stream that is edited and written: the bytes that are held of it, or its file, which is read again
   -- a stream that was edited and written, or that it could not be opened
-  abbrev pub EditsOriginal : (edits : List Edit) (original : Original) (output : Device)
+  abbrev pub EditsOriginal : (system : S) (edits : List Edit) (original : Original) (output : Device)
       → Result (Result Ended ListError) Cause → Type 0
-  EditsOriginal edits original output (Ok how) = EditsBy edits original original.held output how
-  EditsOriginal edits original output (Err cause) =
+  EditsOriginal system edits original output (Ok how) = EditsBy system edits original original.held output how
+  EditsOriginal system edits original output (Err cause) =
       (original.held ≡ None) × calls.opens system original.name.now (Err cause) × IsUntouched output
 
+  -- What was written was flushed at its end, and the command goes on or stops.
+  pub record Forwards (name : List ℕ) (how : Result Ended ListError) (result : Result (Unit {0}) ℕ) (old new : Run S)
+      : Type 0 where
+    pub flushed : Result Ended ListError
+    pub middle : Run S
+    pub keeps : Keeps old.written.bytes middle.written.bytes
+    pub flushes : FlushesAtEnd how (output_of old middle) middle.forwarded flushed
+    pub only : OnlyWrites old middle
+    pub ends : EndsRun name flushed result middle new
+
+  abbrev pub EndsOutput : (name : List ℕ) → Result (Result Ended ListError) Cause → Result (Unit {0}) ℕ
+      → (old new : Run S) → Type 0
+  EndsOutput name (Ok how) result old new = Forwards name how result old new
+  EndsOutput name (Err cause) result old new = RefusesFor name cause result old new
+
   -- The stream was written to the output with edits, and flushed.
-  pub record WritesOut (edits : List Edit) (original : Original) (output : Device) (forwarded : Bool)
-      (errors : Device) (status : ℕ) : Type 0 where
-    pub middle : Option (List ℕ)
-    pub failed : Bool
+  pub record EditsOut (edits : List Edit) (original : Original) (result : Result (Unit {0}) ℕ) (old new : Run S)
+      : Type 0 where
+    pub middle : Run S
     pub edited : Result (Result Ended ListError) Cause
-    pub writes : EditsOriginal edits original (record output { after = middle; has_failed = failed }) edited
-    pub ends : EndsOutput original.name.now edited (record output { before = middle; had_failed = failed }) forwarded
-        errors status
+    pub writes : EditsOriginal old.system edits original (output_of old middle) edited
+    pub only : OnlyWrites old middle
+    pub ends : EndsOutput original.name.now edited result middle new
 
-  -- The file was to be replaced by what was written if that is complete, and this was said.
-  pub record EndsTarget (target : List ℕ) (written : O) (is_complete : Bool) (first : ℕ) (errors : Device)
-      (status : ℕ) : Type 0 where
-    pub replaced : Result (Unit {0}) Cause
-    pub replaces : calls.replaces system written is_complete replaced
-    pub ends : TargetEnds target replaced first errors status
+  -- | a file that is begun, to replace another one
+  -- A file was created that is to replace the target, or it was said why not.
+  abbrev pub Creates : (name target : List ℕ) → Result O ℕ → (old new : Run S) → Type 0
+  Creates name target (Ok created) old new =
+      calls.creates old.system name target (Ok created) new.system × (new ≡ record old { system = new.system })
+  Creates name target (Err status) old new = (later : S) × (cause : Cause)
+      × calls.creates old.system name target (Err cause) later
+      × RefusesFor {A = Unit {0}} target cause (Err status) (record old { system = later }) new
 
-  -- The file could not be created, and this was said.
-  pub record CannotCreate (name target : List ℕ) (errors : Device) (status : ℕ) : Type 0 where
-    pub cause : Cause
-    pub creates : calls.creates system name target (Err cause)
-    pub gives_up : GivesUp (file_text target (reason_of cause)) errors status
+  -- | a file that is replaced by what was written, if that is complete, and else discarded
+  -- The target was replaced by what was written, or that was discarded, as it was complete or not; or it was said why not.
+  abbrev pub Takes : (target : List ℕ) (written : O) (is_complete : Bool) → Result (Unit {0}) ℕ → (old new : Run S)
+      → Type 0
+  Takes target written is_complete (Ok done) old new =
+      calls.replaces old.system written is_complete (Ok tt) new.system × (new ≡ record old { system = new.system })
+  Takes target written is_complete (Err status) old new = (later : S) × (cause : Cause)
+      × calls.replaces old.system written is_complete (Err cause) later
+      × RefusesFor {A = Unit {0}} target cause (Err status) (record old { system = later }) new
+
+  -- The target was replaced exactly if this is a success, and the command then ends as it was to.
+  abbrev pub Closes : (target : List ℕ) (written : O) (is_complete : Bool) (ended : Result (Unit {0}) ℕ)
+      → Result (Unit {0}) ℕ → (old new : Run S) → Type 0
+  Closes target written is_complete ended =
+      Then (Takes target written is_complete) (λ done result old new. (result ≡ ended) × (new ≡ old))
 
   -- | a file that is replaced: a new file was created and received what is written of the stream. The target was
   --   replaced by it exactly if the stream was written to its end. Otherwise the new file was discarded
-  -- A file was created and written, and took the place of the target exactly if the stream was written to its end.
-  pub record Replaces (edits : List Edit) (original : Original) (target : List ℕ) (errors : Device) (status : ℕ)
-      : Type 0 where
-    pub created : O
+  -- A created file received what is written of the stream, and took the place of the target exactly if that is all.
+  pub record Replaces (edits : List Edit) (original : Original) (target : List ℕ) (created : O)
+      (result : Result (Unit {0}) ℕ) (old new : Run S) : Type 0 where
     pub written : O
-    pub creates : calls.creates system original.name.now target (Ok created)
     pub edited : Result (Result Ended ListError) Cause
-    pub writes : EditsOriginal edits original (device_of sinks.taken sinks.has_failed created written) edited
+    pub writes : EditsOriginal old.system edits original (device_of sinks.taken sinks.has_failed created written) edited
     pub whole : is_whole edited ≡ true
-        → IsWritten edits original (device_of sinks.taken sinks.has_failed created written)
-    pub first : ℕ
-    pub middle : Option (List ℕ)
-    pub failed : Bool
-    pub says : EndsFile original.name.now target edited (record errors { after = middle; has_failed = failed }) first
-    pub ends : EndsTarget target written (is_whole edited) first
-        (record errors { before = middle; had_failed = failed })
-        status
+        → IsWritten old.system edits original (device_of sinks.taken sinks.has_failed created written)
+    pub middle : Run S
+    pub ended : Result (Unit {0}) ℕ
+    pub ends : EndsFile original.name.now target edited ended old middle
+    pub closes : Closes target written (is_whole edited) ended result middle new
 
-  abbrev pub WritesFile : (edits : List Edit) (original : Original) (target : List ℕ) (errors : Device) (status : ℕ)
-      → Type 0
-  WritesFile edits original target errors status =
-      CannotCreate original.name.now target errors status ⊎ Replaces edits original target errors status
+  abbrev pub EditsTarget : (edits : List Edit) (original : Original) (target : List ℕ) → Result (Unit {0}) ℕ
+      → (old new : Run S) → Type 0
+  EditsTarget edits original target = Then (Creates original.name.now target) (Replaces edits original target)
+
+  -- | a stream that is written with edits to a file, or to the output
+  abbrev pub EditsTo : (edits : List Edit) (original : Original) → Option (List ℕ) → Result (Unit {0}) ℕ
+      → (old new : Run S) → Type 0
+  EditsTo edits original (Some target) = EditsTarget edits original target
+  EditsTo edits original None = EditsOut edits original
+
+  -- | a file that is edited
+  abbrev pub Changes : (edits : List Edit) (name : List ℕ) (target : Option (List ℕ)) → Result (Unit {0}) ℕ
+      → (old new : Run S) → Type 0
+  Changes edits name target = Then (Finds name) (λ original. EditsTo edits original target)
 
   -- | a file that is replaced by these bytes, exactly if all of them were written
-  -- A file was created and received the bytes, and took the place of the target exactly if all were written.
-  pub record ReplacesBytes (bytes name target : List ℕ) (errors : Device) (status : ℕ) : Type 0 where
-    pub created : O
+  -- A created file received the bytes, and took the place of the target exactly if all were written.
+  pub record ReplacesBytes (bytes target : List ℕ) (created : O) (result : Result (Unit {0}) ℕ) (old new : Run S)
+      : Type 0 where
     pub written : O
-    pub creates : calls.creates system name target (Ok created)
     pub is_complete : Bool
     pub writes : WritesBytes bytes (device_of sinks.taken sinks.has_failed created written) is_complete
-    pub first : ℕ
-    pub middle : Option (List ℕ)
-    pub failed : Bool
-    pub says : EndsBytes target is_complete (record errors { after = middle; has_failed = failed }) first
-    pub ends : EndsTarget target written is_complete first
-        (record errors { before = middle; had_failed = failed }) status
+    pub middle : Run S
+    pub ended : Result (Unit {0}) ℕ
+    pub ends : EndsTarget target is_complete ended old middle
+    pub closes : Closes target written is_complete ended result middle new
 
-  abbrev pub WritesBytesFile : (bytes name target : List ℕ) (errors : Device) (status : ℕ) → Type 0
-  WritesBytesFile bytes name target errors status =
-      CannotCreate name target errors status ⊎ ReplacesBytes bytes name target errors status
+  abbrev pub WritesBytesTarget : (bytes name target : List ℕ) → Result (Unit {0}) ℕ → (old new : Run S) → Type 0
+  WritesBytesTarget bytes name target = Then (Creates name target) (ReplacesBytes bytes target)
 
-  -- The bytes were written to a file, and the output left alone; or to the output.
-  abbrev pub WritesBytesTo : (bytes name : List ℕ) → Option (List ℕ) → (output : Device) (forwarded : Bool)
-      (errors : Device) (status : ℕ) → Type 0
-  WritesBytesTo bytes name (Some target) output forwarded errors status =
-      IsUntouched output × WritesBytesFile bytes name target errors status
-  WritesBytesTo bytes name None output forwarded errors status =
-      WritesBytesOut bytes output forwarded errors status
-
-  -- The stream was written to a file, and the output left alone; or to the output.
-  abbrev pub WritesTo : (edits : List Edit) (original : Original) → Option (List ℕ) → (output : Device)
-      (forwarded : Bool) (errors : Device) (status : ℕ) → Type 0
-  WritesTo edits original (Some target) output forwarded errors status =
-      IsUntouched output × WritesFile edits original target errors status
-  WritesTo edits original None output forwarded errors status =
-      WritesOut edits original output forwarded errors status
-
-  -- The stream of the file was found, and written with edits to where the arguments say.
-  pub record Changes (edits : List Edit) (name : List ℕ) (reads : List Read) (output : Device) (forwarded : Bool)
-      (errors : Device) (status : ℕ) : Type 0 where
-    pub original : Original
-    pub found : IsOriginal name original
-    pub writes : WritesTo edits original (target_in reads) output forwarded errors status
-
-  -- | a file that is edited to where `--output` says, or could not be read
-  abbrev pub ChangesFile : (edits : List Edit) (name : List ℕ) (reads : List Read) (output : Device)
-      (forwarded : Bool) (errors : Device) (status : ℕ) → Type 0
-  ChangesFile edits name reads output forwarded errors status =
-      (calls.rereads system name false × CannotHold name errors status × IsUntouched output)
-      ⊎ Changes edits name reads output forwarded errors status
+  -- | bytes that are written to a file, or to the output
+  abbrev pub WritesTo : (bytes name : List ℕ) → Option (List ℕ) → Result (Unit {0}) ℕ → (old new : Run S) → Type 0
+  WritesTo bytes name (Some target) = WritesBytesTarget bytes name target
+  WritesTo bytes name None = WritesOut bytes

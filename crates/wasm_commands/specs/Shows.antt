@@ -2,16 +2,15 @@
 use Rattle.std.specs.Prelude.{◌≡◌, ◌⊎◌, ℕ, ◌<◌, ◌≤◌, Bool, true, false, List, [], ◌∷◌, ◌++◌, codes, max, take, Option}
 use Rattle.std.specs.Prelude.{Some, None, Result, Ok, Err}
 use Rattle.std.specs.Io.KnownBytes.{Appends}
-use Rattle.std.specs.declared.alloc.AllocError.{AllocError}
 use Rattle.wasm_commands.specs.ArgumentLists.{Read, has_option, operands_in, values_in}
 use Rattle.wasm_commands.specs.Choices.{ChooseInTurn}
 use Rattle.wasm_commands.specs.Colors.{seen_as}
 use Rattle.wasm_commands.specs.DumpRuns.{RunsDump}
 use Rattle.wasm_commands.specs.EditsTwice.{dropped}
-use Rattle.wasm_commands.specs.Formats.{format_asked, has_colors}
+use Rattle.wasm_commands.specs.Formats.{has_colors}
 use Rattle.wasm_commands.specs.Messages.{Reports, missing_text, names_text}
 use Rattle.wasm_commands.specs.Parsing.{texts}
-use Rattle.wasm_commands.specs.Systems.{Between, Files, FailsOn, InTurn, RefusesWith, RunsIfMemory, StopsForMemory}
+use Rattle.wasm_commands.specs.Systems.{Between, Files, FailsOn, InTurn, RefusesWith, StopsForMemory}
 use Rattle.wasm_commands.specs.Systems.{UsesFile, since, until}
 use Rattle.wasm_commands.specs.declared.dump.Plan.{Plan}
 use Rattle.wasm_commands.specs.declared.dump.Request.{Request}
@@ -176,24 +175,3 @@ pub record ShowsIn (files : Files) (verb : Verb) (reads : List Read) (format : F
   pub plan : Plan
   pub asked : IsAsked verb reads format plan
   pub shows : ShowsFiles files plan (operands_in reads) output errors status
-
--- The same, unless the options exclude each other.
-abbrev pub ShowsAsked : Files → Verb → List Read → Result Format (List ℕ) → (output errors : Device) (status : ℕ)
-    → Type 0
-ShowsAsked files verb reads (Ok format) output errors status = ShowsIn files verb reads format output errors status
-ShowsAsked files verb reads (Err text) output errors status = RefusesWith text output errors status
-
--- The system said whether the output is a terminal, and the files were shown in the format that is asked for.
-abbrev pub ShowsWhere : Files → (shows : Bool → Type 0) → Verb → List Read → (output errors : Device) (status : ℕ)
-    → Type 0
-ShowsWhere files shows verb reads output errors status = (is_terminal : Bool) × shows is_terminal
-    × ShowsAsked files verb reads (format_asked verb reads is_terminal) output errors status
-
--- | what `list` and `dump` do with the files that their arguments name, and `producers` that sets nothing
---   [`ShowsFile`, `ShowsUnderName`, `IsAsked`]
--- The files that the arguments name were shown, or what is wrong with the options was said; or an allocation failed
--- before.
-abbrev pub Shows : Files → (shows : Bool → Type 0) → Verb → List Read → (output errors : Device)
-    → Result ℕ AllocError → Type 0
-Shows files shows verb reads output errors result =
-    RunsIfMemory (ShowsWhere files shows verb reads) output errors result

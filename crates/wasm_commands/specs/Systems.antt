@@ -1,6 +1,5 @@
 -- What commands do with files, by what the system may return (the ghost members of `System`).
 use Rattle.std.specs.Prelude.{◌≡◌, ◌⊎◌, ℕ, ◌<◌, max, Bool, true, List, [], ◌∷◌, codes, Option, Result, Ok, Err}
-use Rattle.std.specs.declared.alloc.AllocError.{AllocError}
 use Rattle.wasm_commands.specs.Messages.{failure_text, file_text}
 use Rattle.wasm_commands.specs.Reasons.{reason_of}
 use Rattle.wasm_commands.specs.declared.messages.Causes.{Causes}
@@ -10,7 +9,6 @@ use Rattle.wasm_console.specs.Devices.{IsUntouched}
 use Rattle.wasm_io.specs.Calls.{Device, device_of}
 use Rattle.wasm_io.specs.Messages.{Says}
 use Rattle.wasm_io.specs.declared.devices.ListError.{ListError}
-use Rattle.wasm_io.specs.declared.devices.sink.Sink.{Ghosts as SinkOf}
 use Rattle.wasm_io.specs.declared.devices.source.Source.{Ghosts as SourceOf}
 
 -- what opening the file with a name may return: why it is refused, or an input, by what is then read of it
@@ -22,32 +20,6 @@ abbrev pub FilesOf : {S I O : Type 0} → SystemOf S I O → SourceOf I → (sys
 FilesOf {S} {I} {O} calls sources system name (Ok input) = (old : I) × (new : I) × calls.opens system name (Ok old)
     × (input ≡ device_of sources.remaining sources.has_failed old new)
 FilesOf {S} {I} {O} calls sources system name (Err cause) = calls.opens system name (Err cause)
-
--- a system that commands run on: what its calls may return, and what is known of its inputs and outputs
-pub record Platform : Type 1 where
-  pub System : Type 0
-  pub Input : Type 0
-  pub Output : Type 0
-  pub calls : SystemOf System Input Output
-  pub sources : SourceOf Input
-  pub sinks : SinkOf Output
-  pub system : System
-
--- a system as one
-abbrev pub platform : {S I O : Type 0} → SystemOf S I O → SourceOf I → SinkOf O → (system : S) → Platform
-platform {S} {I} {O} calls sources sinks system = record {
-  System = S;
-  Input = I;
-  Output = O;
-  calls = calls;
-  sources = sources;
-  sinks = sinks;
-  system = system;
-}
-
--- its files
-abbrev pub files_on : Platform → Files
-files_on p = FilesOf p.calls p.sources p.system
 
 -- The file could not be opened: the status is 3, the message has the system's reason, and nothing was written.
 pub record RefusesFile (files : Files) (name : List ℕ) (output errors : Device) (status : ℕ) : Type 0 where
@@ -79,7 +51,7 @@ pub record StopsForMemory (output errors : Device) (status : ℕ) : Type 0 where
   pub says : Says errors (codes "pulleynavy: out of memory\n")
   pub sink : IsUntouched output
 
--- | that what was written to the output was forwarded [`ForwardsIfMemory`]
+-- | that what was written to the output was forwarded
 -- After the status 0 or 1 what was written was forwarded.
 abbrev pub IsForwarded : (status : ℕ) (forwarded : Bool) → Type 0
 IsForwarded status forwarded = status < 2 → forwarded ≡ true
@@ -140,20 +112,3 @@ InTurn one (name ∷ names) output errors status =
 abbrev pub named_files : (operands : List (List ℕ)) → List (List ℕ)
 named_files [] = codes "-" ∷ []
 named_files (name ∷ names) = name ∷ names
-
--- ---- commands
-
--- After a command that ended with the status 0 or 1 what was written was forwarded.
-abbrev pub ForwardsIfMemory : Result ℕ AllocError → (forwarded : Bool) → Type 0
-ForwardsIfMemory (Ok status) forwarded = IsForwarded status forwarded
-ForwardsIfMemory (Err refused) forwarded = Unit {0}
-
--- what a command does, unless an allocation failed before anything was written
-abbrev pub IfAllocated : (does : ℕ → Type 0) → (output errors : Device) → Result ℕ AllocError → Type 0
-IfAllocated does output errors (Ok status) = does status
-IfAllocated does output errors (Err refused) = IsUntouched output × IsUntouched errors
-
--- the same of what it does with the devices
-abbrev pub RunsIfMemory : (runs : (output errors : Device) (status : ℕ) → Type 0) → (output errors : Device)
-    → Result ℕ AllocError → Type 0
-RunsIfMemory runs output errors result = IfAllocated (runs output errors) output errors result

@@ -1,17 +1,15 @@
 // The command `add`: appends custom sections, or replaces them.
 ghost use Rattle.std.specs.Prelude.{◌≡◌, false, IfOk, map};
-ghost use Rattle.wasm_commands.specs.ArgumentLists.{has_option};
-ghost use Rattle.wasm_commands.specs.Parsing.{reads_of, texts};
-ghost use Rattle.wasm_commands.specs.declared.options.Flag.TheVariants.{Replace};
-ghost use Rattle.wasm_commands.specs.RewriteCommands.{Adds, AddsAll, AddsBy, AddsHeld, AddsLoaded, AddsRead, AddsSearched, AddsTo, AddsWords, AreAdditions, AreOperands, EachInTurn, IfAdded, IsAdded, IsAddedBy, IsAddition, LoadsAll, is_asked_again, is_input, Searches, WritesAdded, loaded_parts, no_addition, parts_of};
-ghost use Rattle.wasm_commands.specs.Systems.{IfAllocated};
-ghost use Rattle.wasm_io.specs.Calls.{device_of, writer_device};
+ghost use Rattle.wasm_commands.specs.ArgumentLists.{operands_in};
+ghost use Rattle.wasm_commands.specs.Parsing.{reads_of, text_if_any, texts};
+ghost use Rattle.wasm_commands.specs.RewriteCommands.{Adds, AddsBy, AddsFound, AddsHeld, AddsTo, AreAdditions, AreOperands, EachInTurn, IsAdded, IsAddedBy, IsAddition, LoadsAll, Prepares, Searches, TakesAdditions, WritesAdded, is_asked_again, is_input, loaded_parts, parts_of};
 
 use crate::arguments::Arguments;
 use crate::extract::{Wanted, find};
-use crate::messages::{Complaint, complain, refuse_file, report_fault};
+use crate::messages::Complaint;
 use crate::options::{Flag, Verb};
-use crate::rewriting::{Original, answer, hold, original_of, write_edited};
+use crate::rewriting::{Original, target_of};
+use crate::runner::Runner;
 use crate::system::System;
 use std::alloc::{AllocError, Global};
 use std::cell::Cell;
@@ -85,27 +83,21 @@ fn reads_input_twice(additions: &[Addition<'_>], file: &str) -> bool
     false
 }
 
-// Reads the data of all sections. Says why if that fails, and returns the exit status.
-fn load_all<'a, S: System, E: Sink>(
-    alloc: Global,
-    additions: &[Addition<'a>],
-    system: &S,
-    errors: &mut E,
-) -> Result<Result<Vec<Loaded<'a>>, u8>, AllocError>
-    ensures { LoadsAll S.System S.Input.Source S.Output.Sink system.now
-        (map parts_of additions.now) (device_of E.taken E.has_failed errors.old errors.new) result }
+// The operands of the command: what is added, and the file to which it is added.
+#[derive(Clone, Copy)]
+struct Operands<'o, 'a> {
+    words: &'o [&'a str],
+    file: &'a str,
+}
+
+// Returns the operands, if there are enough.
+fn operands_of<'o, 'a>(operands: &'o [&'a str]) -> Option<Operands<'o, 'a>>
+    ensures { AreOperands (texts operands.now) result }
 {
-    let mut all = Vec::new(alloc);
-    for addition in additions {
-        match hold(alloc, addition.file, system, errors) {
-            Ok(bytes) => all.push(Loaded {
-                name: addition.name,
-                bytes,
-            })?,
-            Err(status) => return Ok(Err(status)),
-        }
+    match operands {
+        [] | [_] => None,
+        [words @ .., file] => Some(Operands { words, file }),
     }
-    Ok(Ok(all))
 }
 
 // Returns the edit that adds a section: in place of those with its name, or after the others.
@@ -209,28 +201,6 @@ fn find_named<R: Source, W: Write>(
     (how, tree.into_output())
 }
 
-// Reads a file for these custom sections, and sets a flag for each one that it has. Returns the exit status, 0 or that of a
-// fault or a failure, which it reports, and the output.
-fn search<S: System, W: Write, E: Sink>(
-    alloc: Global,
-    only: &[Only<'_>],
-    found: &[Cell<bool>],
-    name: &str,
-    system: &S,
-    output: WriteSink<W>,
-    errors: &mut E,
-) -> (u8, WriteSink<W>)
-    ensures { Searches S.System S.Input.Source S.Output.Sink system.now name.now
-        (device_of E.taken E.has_failed errors.old errors.new) result.0 }
-{
-    let mut input = match system.open(name) {
-        Ok(input) => input,
-        Err(cause) => return (refuse_file(name, cause, errors), output),
-    };
-    let (how, output) = find_named(alloc, only, found, &mut input, output);
-    (answer(name, how, system, errors), output)
-}
-
 // Returns the name of the first section that is too large.
 fn large_name<'a>(edits: &[Edit<'a>]) -> &'a str {
     for edit in edits {
@@ -244,315 +214,206 @@ fn large_name<'a>(edits: &[Edit<'a>]) -> &'a str {
     ""
 }
 
-// Writes a stream with these edits, unless a section is too large. Returns the exit status.
-fn write_added<S: System, W: Write, E: Sink>(
-    alloc: Global,
-    edits: &[Edit<'_>],
-    original: &Original<'_>,
-    arguments: &Arguments<'_>,
-    system: &S,
-    output: &mut WriteSink<W>,
-    errors: &mut E,
-) -> u8
-    ensures { WritesAdded S.System S.Input.Source S.Output.Sink system.now (reads_of arguments.now)
-        (writer_device W.contents output.old output.new) output.new.forwarded
-        (device_of E.taken E.has_failed errors.old errors.new) edits.now original.now result }
-{
-    if all_fit(edits) {
-        return write_edited(alloc, edits, original, arguments, system, output, errors);
-    }
-    let name = large_name(edits);
-    complain(Complaint::TooLarge(Verb::Add, name), errors)
-}
-
-// Writes a stream with these sections after the others. Returns the exit status.
-fn add_at_end<'a, S: System, W: Write, E: Sink>(
-    alloc: Global,
-    loaded: &'a [Loaded<'a>],
-    original: &Original<'_>,
-    arguments: &Arguments<'_>,
-    system: &S,
-    output: &mut WriteSink<W>,
-    errors: &mut E,
-) -> Result<u8, AllocError>
-    ensures { IfAllocated (AddsBy S.System S.Input.Source S.Output.Sink system.now
-        (reads_of arguments.now) (writer_device W.contents output.old output.new)
-        output.new.forwarded (device_of E.taken E.has_failed errors.old errors.new)
-        (IsAddedBy false) (map loaded_parts loaded.now) original.now)
-        (writer_device W.contents output.old output.new)
-        (device_of E.taken E.has_failed errors.old errors.new) result }
-{
-    let edits = edits_at_end(alloc, loaded)?;
-    Ok(write_added(alloc, &edits, original, arguments, system, output, errors))
-}
-
-// Writes a stream in memory with these sections, in place of those with their names. Returns the exit status.
-fn add_to_held<'a, S: System, W: Write, E: Sink>(
-    alloc: Global,
-    loaded: &'a [Loaded<'a>],
-    bytes: &[u8],
-    original: &Original<'_>,
-    arguments: &Arguments<'_>,
-    system: &S,
-    output: &mut WriteSink<W>,
-    errors: &mut E,
-) -> Result<u8, AllocError>
-    ensures { IfAllocated (AddsHeld S.System S.Input.Source S.Output.Sink system.now
-        (reads_of arguments.now) (writer_device W.contents output.old output.new)
-        output.new.forwarded (device_of E.taken E.has_failed errors.old errors.new)
-        bytes.now (map loaded_parts loaded.now) original.now)
-        (writer_device W.contents output.old output.new)
-        (device_of E.taken E.has_failed errors.old errors.new) result }
-{
-    match edits_to(alloc, loaded, bytes)? {
-        Ok(edits) => Ok(write_added(alloc, &edits, original, arguments, system, output, errors)),
-        Err(error) => Ok(report_fault(original.name, &error, errors)),
-    }
-}
-
-// Writes a file with these sections, in place of those of which the flag is set. Returns the exit status.
-fn add_found<'a, S: System, W: Write, E: Sink>(
-    alloc: Global,
-    loaded: &'a [Loaded<'a>],
-    found: &[Cell<bool>],
-    original: &Original<'_>,
-    arguments: &Arguments<'_>,
-    system: &S,
-    output: &mut WriteSink<W>,
-    errors: &mut E,
-) -> Result<u8, AllocError>
-    ensures { IfAllocated (AddsBy S.System S.Input.Source S.Output.Sink system.now
-        (reads_of arguments.now) (writer_device W.contents output.old output.new)
-        output.new.forwarded (device_of E.taken E.has_failed errors.old errors.new)
-        IsAdded (map loaded_parts loaded.now) original.now)
-        (writer_device W.contents output.old output.new)
-        (device_of E.taken E.has_failed errors.old errors.new) result }
-{
-    let edits = edits_by(alloc, loaded, found)?;
-    Ok(write_added(alloc, &edits, original, arguments, system, output, errors))
-}
-
-// Searches a file for these sections, and writes it with them. Those whose name it has are replaced. Returns the exit
-// status, and the output.
-fn add_to_file<'a, S: System, W: Write, E: Sink>(
-    alloc: Global,
-    loaded: &'a [Loaded<'a>],
-    name: &str,
-    arguments: &Arguments<'_>,
-    system: &S,
-    output: WriteSink<W>,
-    errors: &mut E,
-) -> (Result<u8, AllocError>, WriteSink<W>)
-    ensures { IfAdded (AddsSearched S.System S.Input.Source S.Output.Sink system.now
-        (reads_of arguments.now) (writer_device W.contents output result.1) result.1.forwarded
-        (device_of E.taken E.has_failed errors.old errors.new) (map loaded_parts loaded.now) name.now)
-        (device_of E.taken E.has_failed errors.old errors.new) result.0 }
-{
-    let only = match choices_of(alloc, loaded) {
-        Ok(only) => only,
-        Err(error) => return (Err(error), output),
-    };
-    let found = match vec![in alloc; Cell::new(false); loaded.len()] {
-        Ok(found) => found,
-        Err(error) => return (Err(error), output),
-    };
-    let (status, mut output) = search(alloc, &only, &found, name, system, output, errors);
-    if status != 0 {
-        return (Ok(status), output);
-    }
-    let original = Original {
-        name,
-        held: None,
-        is_checked: true,
-    };
-    let result = add_found(
-        alloc,
-        loaded,
-        &found,
-        &original,
-        arguments,
-        system,
-        &mut output,
-        errors,
-    );
-    (result, output)
-}
-
-// Writes a stream with these sections. Returns the exit status, and the output.
-fn add_to<'a, S: System, W: Write, E: Sink>(
-    alloc: Global,
-    loaded: &'a [Loaded<'a>],
-    original: &Original<'_>,
-    arguments: &Arguments<'_>,
-    system: &S,
-    mut output: WriteSink<W>,
-    errors: &mut E,
-) -> (Result<u8, AllocError>, WriteSink<W>)
-    ensures { IfAdded (AddsLoaded S.System S.Input.Source S.Output.Sink system.now
-        (reads_of arguments.now) (writer_device W.contents output result.1) result.1.forwarded
-        (device_of E.taken E.has_failed errors.old errors.new)
-        (has_option Replace (reads_of arguments.now)) (map loaded_parts loaded.now) original.now)
-        (device_of E.taken E.has_failed errors.old errors.new) result.0 }
-{
-    if !arguments.has(Flag::Replace) {
-        let result = add_at_end(
-            alloc,
-            loaded,
-            original,
-            arguments,
-            system,
-            &mut output,
-            errors,
-        );
-        return (result, output);
-    }
-    match &original.held {
-        Some(bytes) => {
-            let result = add_to_held(
-                alloc,
-                loaded,
-                bytes,
-                original,
-                arguments,
-                system,
-                &mut output,
-                errors,
-            );
-            (result, output)
-        }
-        None => add_to_file(
-            alloc,
-            loaded,
-            original.name,
-            arguments,
-            system,
-            output,
-            errors,
-        ),
-    }
-}
-
-// The operands of the command: what is added, and the file to which it is added.
-#[derive(Clone, Copy)]
-struct Operands<'a> {
-    words: &'a [&'a str],
-    file: &'a str,
-}
-
-// Returns the operands, if there are enough.
-fn operands_of<'a>(operands: &'a [&'a str]) -> Option<Operands<'a>>
-    ensures { AreOperands (texts operands.now) result }
-{
-    match operands {
-        [] | [_] => None,
-        [words @ .., file] => Some(Operands { words, file }),
-    }
-}
-
-// Reads the stream of a file, and writes it with these sections. Returns the exit status, and the output.
-fn add_loaded<'a, S: System, W: Write, E: Sink>(
-    alloc: Global,
-    loaded: &'a [Loaded<'a>],
-    file: &str,
-    arguments: &Arguments<'_>,
-    system: &S,
-    output: WriteSink<W>,
-    errors: &mut E,
-) -> (Result<u8, AllocError>, WriteSink<W>)
-    ensures { IfAdded (AddsRead S.System S.Input.Source S.Output.Sink system.now
-        (reads_of arguments.now) (writer_device W.contents output result.1) result.1.forwarded
-        (device_of E.taken E.has_failed errors.old errors.new) (map loaded_parts loaded.now) file.now)
-        (device_of E.taken E.has_failed errors.old errors.new) result.0 }
-{
-    match original_of(alloc, file, system, errors) {
-        Ok(original) => add_to(alloc, loaded, &original, arguments, system, output, errors),
-        Err(status) => (Ok(status), output),
-    }
-}
-
-// Reads the data of sections, and writes a file with these. Returns the exit status, and the output.
-fn add_data<S: System, W: Write, E: Sink>(
-    alloc: Global,
-    additions: &[Addition<'_>],
-    file: &str,
-    arguments: &Arguments<'_>,
-    system: &S,
-    output: WriteSink<W>,
-    errors: &mut E,
-) -> (Result<u8, AllocError>, WriteSink<W>)
-    ensures { IfAdded (AddsAll S.System S.Input.Source S.Output.Sink system.now
-        (reads_of arguments.now) (writer_device W.contents output result.1) result.1.forwarded
-        (device_of E.taken E.has_failed errors.old errors.new) (map parts_of additions.now) file.now)
-        (device_of E.taken E.has_failed errors.old errors.new) result.0 }
-{
-    match load_all(alloc, additions, system, errors) {
-        Ok(Ok(loaded)) => add_loaded(alloc, &loaded, file, arguments, system, output, errors),
-        Ok(Err(status)) => (Ok(status), output),
-        Err(error) => (Err(error), output),
-    }
-}
-
-// Writes a file with the sections that these words name. Returns the exit status, and the output.
-fn add_words<S: System, W: Write, E: Sink>(
-    alloc: Global,
-    words: &[&str],
-    file: &str,
-    arguments: &Arguments<'_>,
-    system: &S,
-    output: WriteSink<W>,
-    errors: &mut E,
-) -> (Result<u8, AllocError>, WriteSink<W>)
-    ensures { IfAdded (AddsWords S.System S.Input.Source S.Output.Sink system.now
-        (reads_of arguments.now) (writer_device W.contents output result.1) result.1.forwarded
-        (device_of E.taken E.has_failed errors.old errors.new) (no_addition (texts words.now))
-        (texts words.now) file.now)
-        (device_of E.taken E.has_failed errors.old errors.new) result.0 }
-{
-    match parse_additions(alloc, words) {
-        Ok(Ok(additions)) => {
-            if reads_input_twice(&additions, file) {
-                return (Ok(complain(Complaint::InputTwice, errors)), output);
+impl<S: System, W: Write, E: Sink> Runner<S, W, E> {
+    // Returns what is added, and the file to which it is added.
+    fn additions_of<'a>(
+        &mut self,
+        alloc: Global,
+        operands: &[&'a str],
+    ) -> Result<(Vec<Addition<'a>>, &'a str), u8>
+        ensures { TakesAdditions (texts operands.now) result self.old self.new }
+    {
+        let Some(Operands { words, file }) = operands_of(operands) else {
+            return Err(self.complain(Complaint::Few(Verb::Add, "NAME=DATA and FILE")));
+        };
+        match self.allocated(parse_additions(alloc, words))? {
+            Ok(additions) => {
+                if reads_input_twice(&additions, file) {
+                    return Err(self.complain(Complaint::InputTwice));
+                }
+                Ok((additions, file))
             }
-            add_data(alloc, &additions, file, arguments, system, output, errors)
+            Err(word) => Err(self.complain(Complaint::NoData(word))),
         }
-        Ok(Err(word)) => (Ok(complain(Complaint::NoData(word), errors)), output),
-        Err(error) => (Err(error), output),
+    }
+
+    // Reads the data of all sections.
+    fn load_all<'a>(
+        &mut self,
+        alloc: Global,
+        additions: &[Addition<'a>],
+    ) -> Result<Vec<Loaded<'a>>, u8>
+        ensures { LoadsAll S.System S.Input.Source S.Output.Sink (map parts_of additions.now)
+            result self.old self.new }
+    {
+        let mut all = Vec::new(alloc);
+        for addition in additions {
+            let bytes = self.hold(alloc, addition.file)?;
+            let name = addition.name;
+            if all.push(Loaded { name, bytes }).is_err() {
+                return Err(self.out_of_memory());
+            }
+        }
+        Ok(all)
+    }
+
+    // Writes a stream with these edits, unless a section is too large.
+    fn write_added(
+        &mut self,
+        alloc: Global,
+        edits: &[Edit<'_>],
+        original: &Original<'_>,
+        target: Option<&str>,
+    ) -> Result<(), u8>
+        ensures { WritesAdded S.System S.Input.Source S.Output.Sink (text_if_any target.entry) edits.now
+            original.now result self.old self.new }
+    {
+        if all_fit(edits) {
+            return self.edit_to(alloc, edits, original, target);
+        }
+        Err(self.complain(Complaint::TooLarge(Verb::Add, large_name(edits))))
+    }
+
+    // Returns the sections with their data, and the stream to which they are added.
+    fn prepare<'a>(
+        &mut self,
+        alloc: Global,
+        arguments: &Arguments<'a>,
+    ) -> Result<(Vec<Loaded<'a>>, Original<'a>), u8>
+        ensures { Prepares S.System S.Input.Source S.Output.Sink (operands_in (reads_of arguments.now))
+            result self.old self.new }
+    {
+        let operands = self.allocated(arguments.operands(alloc))?;
+        let (additions, file) = self.additions_of(alloc, &operands)?;
+        let loaded = self.load_all(alloc, &additions)?;
+        let original = self.find(alloc, file)?;
+        Ok((loaded, original))
+    }
+
+    // Writes a stream with these sections after the others.
+    fn add_at_end<'a>(
+        &mut self,
+        alloc: Global,
+        loaded: &'a [Loaded<'a>],
+        original: &Original<'_>,
+        target: Option<&str>,
+    ) -> Result<(), u8>
+        ensures { AddsBy S.System S.Input.Source S.Output.Sink (text_if_any target.entry)
+            (IsAddedBy false) (map loaded_parts loaded.now) original.now result self.old self.new }
+    {
+        let edits = self.allocated(edits_at_end(alloc, loaded))?;
+        self.write_added(alloc, &edits, original, target)
+    }
+
+    // Writes a stream in memory with these sections, in place of those with their names.
+    fn add_to_held<'a>(
+        &mut self,
+        alloc: Global,
+        loaded: &'a [Loaded<'a>],
+        bytes: &[u8],
+        original: &Original<'_>,
+        target: Option<&str>,
+    ) -> Result<(), u8>
+        ensures { AddsHeld S.System S.Input.Source S.Output.Sink (text_if_any target.entry)
+            bytes.now (map loaded_parts loaded.now) original.now result self.old self.new }
+    {
+        let found = self.allocated(edits_to(alloc, loaded, bytes))?;
+        let edits = self.sound(original.name, found)?;
+        self.write_added(alloc, &edits, original, target)
+    }
+
+    // Writes a file with these sections, in place of those of which the flag is set.
+    fn add_found<'a>(
+        &mut self,
+        alloc: Global,
+        loaded: &'a [Loaded<'a>],
+        found: &[Cell<bool>],
+        name: &str,
+        target: Option<&str>,
+    ) -> Result<(), u8>
+        ensures { AddsFound S.System S.Input.Source S.Output.Sink (text_if_any target.entry)
+            (map loaded_parts loaded.now) name.now result self.old self.new }
+    {
+        let edits = self.allocated(edits_by(alloc, loaded, found))?;
+        let original = Original {
+            name,
+            held: None,
+            is_checked: true,
+        };
+        self.write_added(alloc, &edits, &original, target)
+    }
+
+    // Returns the choices of the sections with these names, and a flag for each.
+    fn choose<'a>(
+        &mut self,
+        alloc: Global,
+        loaded: &[Loaded<'a>],
+    ) -> Result<(Vec<Only<'a>>, Vec<Cell<bool>>), u8> {
+        let only = self.allocated(choices_of(alloc, loaded))?;
+        let found = self.allocated(vec![in alloc; Cell::new(false); loaded.len()])?;
+        Ok((only, found))
     }
 }
 
-/// Runs `add`. Returns the exit status, and the output.
-///
-/// # Errors
-///
-/// `AllocError` when an allocation fails before anything is written.
+// Reads a file for the sections with these names. Returns a flag for each, whether the file has it, and the run.
+fn search<'a, S: System, W: Write, E: Sink>(
+    alloc: Global,
+    loaded: &[Loaded<'a>],
+    name: &str,
+    mut runner: Runner<S, W, E>,
+) -> (Result<Vec<Cell<bool>>, u8>, Runner<S, W, E>)
+    ensures { Searches S.System S.Input.Source S.Output.Sink name.now result.0 runner result.1 }
+{
+    let (only, found) = match runner.choose(alloc, loaded) {
+        Ok(chosen) => chosen,
+        Err(status) => return (Err(status), runner),
+    };
+    let mut input = match runner.open(name) {
+        Ok(input) => input,
+        Err(status) => return (Err(status), runner),
+    };
+    let (system, output, errors) = runner.into_parts();
+    let (how, output) = find_named(alloc, &only, &found, &mut input, output);
+    let mut runner = Runner::new(system, output, errors);
+    match runner.end(name, how) {
+        Ok(()) => (Ok(found), runner),
+        Err(status) => (Err(status), runner),
+    }
+}
+
+/// Runs `add`: writes a file or standard input with more custom sections. Returns how it ended, and the run.
 pub(crate) fn add<S: System, W: Write, E: Sink>(
     alloc: Global,
     arguments: &Arguments<'_>,
-    system: &S,
-    output: WriteSink<W>,
-    errors: &mut E,
-) -> (Result<u8, AllocError>, WriteSink<W>)
+    mut runner: Runner<S, W, E>,
+) -> (Result<(), u8>, Runner<S, W, E>)
     // Proved: `add` reads the files with the data of the sections, in order, and then the file to
     //   which they are added, or standard input, and writes that with a section for each, to the
     //   output or to the file of `--output`, which is replaced only if all was written; or it says
-    //   why not. With `--replace`, of a stream in memory exactly the sections that are found by
-    //   their names are replaced [`add` (`Adds`: `AddsOperands`, `AddsLoaded`, `AddsBy`)]
-    ensures { Adds S.System S.Input.Source S.Output.Sink system.now (reads_of arguments.now)
-        (writer_device W.contents output result.1) result.1.forwarded
-        (device_of E.taken E.has_failed errors.old errors.new) result.0 }
+    //   why not. No other file is created or replaced. With `--replace`, of a stream in memory exactly
+    //   the sections that are found by their names are replaced [`add` (`Adds`: `Prepares`,
+    //   `AddsLoaded`, `AddsBy`)]
+    ensures { Adds S.System S.Input.Source S.Output.Sink (reads_of arguments.now)
+        result.0 runner result.1 }
 {
-    let words = match arguments.operands(alloc) {
-        Ok(words) => words,
-        Err(error) => return (Err(error), output),
+    let (loaded, original) = match runner.prepare(alloc, arguments) {
+        Ok(prepared) => prepared,
+        Err(status) => return (Err(status), runner),
     };
-    match operands_of(words.as_slice()) {
-        Some(operands) => {
-            let Operands { words, file } = operands;
-            add_words(alloc, words, file, arguments, system, output, errors)
+    let target = target_of(arguments);
+    if !arguments.has(Flag::Replace) {
+        let ended = runner.add_at_end(alloc, &loaded, &original, target);
+        return (ended, runner);
+    }
+    if let Some(bytes) = &original.held {
+        let ended = runner.add_to_held(alloc, &loaded, bytes, &original, target);
+        return (ended, runner);
+    }
+    match search(alloc, &loaded, original.name, runner) {
+        (Ok(found), mut runner) => {
+            let ended = runner.add_found(alloc, &loaded, &found, original.name, target);
+            (ended, runner)
         }
-        None => {
-            let complaint = Complaint::Few(Verb::Add, "NAME=DATA and FILE");
-            (Ok(complain(complaint, errors)), output)
-        }
+        (Err(status), runner) => (Err(status), runner),
     }
 }

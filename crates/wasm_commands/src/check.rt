@@ -3,15 +3,17 @@ ghost use Rattle.std.specs.Prelude.{◌≡◌, ◌<◌, length, true, IfOk, Ok};
 ghost use Rattle.wasm_output.specs.Written.{found_by};
 ghost use Rattle.std.specs.Io.KnownBytes.{Keeps};
 ghost use Rattle.std.specs.String.{string_bytes};
-ghost use Rattle.wasm_commands.specs.Checks.{ChecksFile, ChecksFiles, ChecksInput, ChecksOpened, EndsCheck, ReadsInput, prefix_text};
+ghost use Rattle.wasm_commands.specs.Checks.{ChecksFile, ChecksInput, ChecksOpened, EndsCheck, ReadsInput, prefix_text};
 ghost use Rattle.wasm_commands.specs.Parsing.{reads_of, texts};
-ghost use Rattle.wasm_commands.specs.Systems.{FilesOf, ForwardsIfMemory, InTurn, IsForwarded, UsesFile};
+ghost use Rattle.wasm_commands.specs.Commands.{Checks};
+ghost use Rattle.wasm_commands.specs.Systems.{FilesOf, InTurn, IsForwarded, UsesFile};
 ghost use Rattle.wasm_io.specs.Calls.{device_of, from_to, writer_device};
 
 use crate::arguments::Arguments;
 use crate::files::or_input;
 use crate::messages::{Causes, refuse_file, refuse_run, shown_name, stop_for_memory};
 use crate::options::Flag;
+use crate::runner::{Runner, ended};
 use crate::system::System;
 use std::alloc::{AllocError, Global};
 use std::io::Write;
@@ -216,30 +218,22 @@ fn check_files<S: System, W: Write, E: Sink>(
     (status, output)
 }
 
-/// Runs `check`. Returns the exit status, 1 if there is a fault in any file, and the output.
-///
-/// # Errors
-///
-/// `AllocError` when an allocation fails before anything is read.
+/// Runs `check`, which stops with the exit status 1 if there is a fault in any file. Returns how it ended, and the run.
 pub(crate) fn check<S: System, W: Write, E: Sink>(
     alloc: Global,
     arguments: &Arguments<'_>,
-    system: &S,
-    output: WriteSink<W>,
-    errors: &mut E,
-) -> (Result<u8, AllocError>, WriteSink<W>)
-    ensures checks { ChecksFiles (FilesOf S.System S.Input.Source system.now) (reads_of arguments.now)
-        (writer_device W.contents output result.1)
-        (device_of E.taken E.has_failed errors.old errors.new) result.0 }
-    ensures forwards { ForwardsIfMemory result.0 result.1.forwarded }
+    mut runner: Runner<S, W, E>,
+) -> (Result<(), u8>, Runner<S, W, E>)
+    ensures { Checks S.System S.Input.Source S.Output.Sink (reads_of arguments.now)
+        result.0 runner result.1 }
 {
     let is_quiet = arguments.has(Flag::Quiet);
-    match arguments.operands(alloc) {
-        Ok(operands) => {
-            let names = or_input(operands.as_slice());
-            let (status, output) = check_files(alloc, is_quiet, system, names, output, errors);
-            (Ok(status), output)
-        }
-        Err(refused) => (Err(refused), output),
-    }
+    let operands = match runner.allocated(arguments.operands(alloc)) {
+        Ok(operands) => operands,
+        Err(status) => return (Err(status), runner),
+    };
+    let names = or_input(operands.as_slice());
+    let (system, output, mut errors) = runner.into_parts();
+    let (status, output) = check_files(alloc, is_quiet, &system, names, output, &mut errors);
+    (ended(status), Runner::new(system, output, errors))
 }

@@ -3,8 +3,9 @@ ghost use Rattle.std.specs.Prelude.{◌≡◌, ◌<◌, ◌≤◌, length, IfOk}
 ghost use Rattle.wasm_commands.specs.ArgumentLists.{operands_in};
 ghost use Rattle.wasm_commands.specs.EditsTwice.{dropped};
 ghost use Rattle.wasm_commands.specs.Parsing.{reads_of, texts};
-ghost use Rattle.wasm_commands.specs.Shows.{ChooseFor, Dumps, DumpsAgain, DumpsFile, DumpsIfMemory, DumpsNamed, DumpsTwice, IsRequest, MayWarn, Shows, ShowsAfter, ShowsFile, ShowsFiles, ShowsIn, ShowsTitled, ShowsUnderName, Warns, WarnsAfter, words_asked};
-ghost use Rattle.wasm_commands.specs.Systems.{FilesOf, ForwardsIfMemory, InTurn, IsForwarded, RunsIfMemory, UsesFile};
+ghost use Rattle.wasm_commands.specs.Shows.{ChooseFor, Dumps, DumpsAgain, DumpsFile, DumpsIfMemory, DumpsNamed, DumpsTwice, IsRequest, MayWarn, ShowsFile, ShowsFiles, ShowsTitled, ShowsUnderName, Warns, WarnsAfter, words_asked};
+ghost use Rattle.wasm_commands.specs.Commands.{Reads, Shows};
+ghost use Rattle.wasm_commands.specs.Systems.{FilesOf, InTurn, IsForwarded, UsesFile};
 ghost use Rattle.wasm_io.specs.Calls.{device_of, writer_device};
 
 mod choices;
@@ -22,6 +23,7 @@ use crate::messages::{
 };
 use crate::options::{Flag, Verb};
 use crate::producers::NAME;
+use crate::runner::{Runner, ended};
 use crate::system::System;
 use choices::chosen_by;
 pub use colored::Colored;
@@ -434,24 +436,38 @@ fn request_of<'a>(
     })
 }
 
-// Shows what the arguments ask for, in this format. Returns the exit status, and the output.
+// Shows what was asked for. Returns how that ended, and the run.
 fn show_as<S: System, W: Write, E: Sink>(
     alloc: Global,
-    verb: Verb,
-    format: Format,
-    arguments: &Arguments<'_>,
-    system: &S,
-    output: WriteSink<W>,
-    errors: &mut E,
-) -> (Result<u8, AllocError>, WriteSink<W>)
-    ensures shows { RunsIfMemory (ShowsIn (FilesOf S.System S.Input.Source system.now) verb
-        (reads_of arguments.now) format) (writer_device W.contents output result.1)
-        (device_of E.taken E.has_failed errors.old errors.new) result.0 }
-    ensures forwards { ForwardsIfMemory result.0 result.1.forwarded }
+    plan: Plan<'_>,
+    names: &[&str],
+    runner: Runner<S, W, E>,
+) -> (Result<(), u8>, Runner<S, W, E>)
+    ensures { Reads (ShowsFiles (FilesOf S.System S.Input.Source runner.system) plan.entry
+        (texts names.now)) result.0 runner result.1 }
 {
-    let request = match request_of(alloc, verb, arguments) {
+    let (system, output, mut errors) = runner.into_parts();
+    let (status, output) = show_files(alloc, plan, &system, names, output, &mut errors);
+    (ended(status), Runner::new(system, output, errors))
+}
+
+/// Runs `list`, `dump` or `producers`. Returns how it ended, and the run.
+pub(crate) fn show<S: System, W: Write, E: Sink>(
+    alloc: Global,
+    verb: Verb,
+    arguments: &Arguments<'_>,
+    mut runner: Runner<S, W, E>,
+) -> (Result<(), u8>, Runner<S, W, E>)
+    ensures { Shows S.System S.Input.Source S.Output.Sink verb (reads_of arguments.now)
+        result.0 runner result.1 }
+{
+    let format = match format_of(verb, arguments, runner.is_terminal()) {
+        Ok(format) => format,
+        Err(complaint) => return (Err(runner.complain(complaint)), runner),
+    };
+    let request = match runner.allocated(request_of(alloc, verb, arguments)) {
         Ok(request) => request,
-        Err(refused) => return (Err(refused), output),
+        Err(status) => return (Err(status), runner),
     };
     let plan = Plan {
         verb,
@@ -463,31 +479,5 @@ fn show_as<S: System, W: Write, E: Sink>(
         },
         format,
     };
-    let names = request.names.as_slice();
-    let (status, output) = show_files(alloc, plan, system, names, output, errors);
-    (Ok(status), output)
-}
-
-/// Runs `list`, `dump` or `producers`. Returns the exit status, and the output.
-///
-/// # Errors
-///
-/// `AllocError` when an allocation fails before anything is read.
-pub(crate) fn show<S: System, W: Write, E: Sink>(
-    alloc: Global,
-    verb: Verb,
-    arguments: &Arguments<'_>,
-    system: &S,
-    output: WriteSink<W>,
-    errors: &mut E,
-) -> (Result<u8, AllocError>, WriteSink<W>)
-    ensures shows { Shows (FilesOf S.System S.Input.Source system.now) (S.shows system.now) verb
-        (reads_of arguments.now) (writer_device W.contents output result.1)
-        (device_of E.taken E.has_failed errors.old errors.new) result.0 }
-    ensures forwards { ForwardsIfMemory result.0 result.1.forwarded }
-{
-    match format_of(verb, arguments, system.is_terminal()) {
-        Ok(format) => show_as(alloc, verb, format, arguments, system, output, errors),
-        Err(complaint) => (Ok(complain(complaint, errors)), output),
-    }
+    show_as(alloc, plan, request.names.as_slice(), runner)
 }

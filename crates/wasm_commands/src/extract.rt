@@ -1,25 +1,20 @@
 // The command `extract`: writes the data of a custom section.
-ghost use Rattle.std.specs.Prelude.{◌≡◌, codes, option_map};
+ghost use Rattle.std.specs.Prelude.{◌≡◌, None, option_map};
+ghost use Rattle.wasm_commands.specs.ArgumentLists.{last_value};
 ghost use Rattle.wasm_commands.specs.Finding.{FindsSection, IsNamedIn};
-ghost use Rattle.wasm_commands.specs.Parsing.{reads_of, text_if_any};
-ghost use Rattle.wasm_commands.specs.RewriteCommands.{EndsExtract, Extracts, ExtractsFile, ExtractsFrom, Skips, value_text, wrong_value_text};
-ghost use Rattle.wasm_commands.specs.Rewrites.{EndsBytes, ForwardsBytes, WritesBytes, WritesBytesFile, WritesBytesOut, WritesBytesTo, target_in};
-ghost use Rattle.wasm_commands.specs.declared.options.Verb.TheVariants.{Extract};
-ghost use Rattle.wasm_console.specs.Messages.{joined};
-ghost use Rattle.wasm_io.specs.Calls.{device_of, writer_device};
-ghost use Rattle.wasm_io.specs.Messages.{Says};
+ghost use Rattle.wasm_commands.specs.Parsing.{reads_of, text_if_any, texts};
+ghost use Rattle.wasm_commands.specs.RewriteCommands.{Extracts, Skips, TakesIndex, TakesSection, value_text};
+ghost use Rattle.wasm_commands.specs.declared.options.Flag.TheVariants as option;
 
 use crate::arguments::Arguments;
-use crate::messages::{
-    Complaint, complain, refuse_file, refuse_run, refuse_target, report_fault, warn_of_missing,
-};
+use crate::messages::Complaint;
 use crate::options::{Flag, Verb};
-use crate::rewriting::{end_target, hold};
+use crate::rewriting::target_of;
+use crate::runner::Runner;
 use crate::system::System;
-use std::alloc::{AllocError, Global};
+use std::alloc::Global;
 use std::io::Write;
-use wasm_console::write_parts;
-use wasm_io::{ListError, Sink, WriteSink};
+use wasm_io::Sink;
 use wasm_parser::{CustomSectionReader, Parser, Payload, Result as ParserResult};
 
 /// The custom section that is looked for: its name, and how many with this name come before it.
@@ -67,169 +62,6 @@ pub(crate) fn find<'a>(
     Ok(None)
 }
 
-// Writes bytes that are in several parts. Returns whether the device took all of them.
-fn writes_all<W: Sink>(output: &mut W, parts: &[&[u8]]) -> bool
-    ensures { WritesBytes (joined parts.now)
-        (device_of W.taken W.has_failed output.old output.new) result }
-{
-    match write_parts(output, parts) {
-        Ok(()) => true,
-        Err(_) => false,
-    }
-}
-
-// Writes bytes to the output and flushes it. Returns whether that succeeded.
-fn forwards_all<W: Write>(output: &mut WriteSink<W>, parts: &[&[u8]]) -> bool
-    ensures { ForwardsBytes (joined parts.now) (writer_device W.contents output.old output.new)
-        output.new.forwarded result }
-{
-    if !writes_all(output, parts) {
-        return false;
-    }
-    match output.flush() {
-        Ok(()) => true,
-        Err(_) => false,
-    }
-}
-
-// Returns the exit status of a run that wrote a file. Says why if that failed.
-fn answer_file<E: Sink>(is_complete: bool, target: &str, system: &impl System, errors: &mut E) -> u8
-    ensures { EndsBytes target.now is_complete
-        (device_of E.taken E.has_failed errors.old errors.new) result }
-{
-    if is_complete {
-        return 0;
-    }
-    refuse_target(target, system.causes(), errors)
-}
-
-// Writes bytes to a file, which is replaced once all of them are written. Returns the exit status.
-fn write_to_file<S: System, E: Sink>(
-    alloc: Global,
-    parts: &[&[u8]],
-    system: &S,
-    name: &str,
-    target: &str,
-    errors: &mut E,
-) -> u8
-    ensures { WritesBytesFile S.System S.Input.Source S.Output.Sink system.now (joined parts.now)
-        name.now target.now (device_of E.taken E.has_failed errors.old errors.new) result }
-{
-    let mut output = match system.create(alloc, name, target) {
-        Ok(output) => output,
-        Err(cause) => return refuse_file(target, cause, errors),
-    };
-    let is_complete = writes_all(&mut output, parts);
-    let status = answer_file(is_complete, target, system, errors);
-    end_target(status, target, output, system, errors)
-}
-
-// Writes bytes to the output. Returns the exit status.
-fn write_to_output<S: System, W: Write, E: Sink>(
-    parts: &[&[u8]],
-    system: &S,
-    output: &mut WriteSink<W>,
-    errors: &mut E,
-) -> u8
-    ensures { WritesBytesOut (joined parts.now) (writer_device W.contents output.old output.new)
-        output.new.forwarded (device_of E.taken E.has_failed errors.old errors.new) result }
-{
-    if forwards_all(output, parts) {
-        return 0;
-    }
-    refuse_run("-", ListError::Output, system.causes(), errors)
-}
-
-/// Writes bytes that are in several parts to where `--output` says. Returns the exit status.
-pub(crate) fn write_joined<S: System, W: Write, E: Sink>(
-    alloc: Global,
-    parts: &[&[u8]],
-    arguments: &Arguments<'_>,
-    system: &S,
-    name: &str,
-    output: &mut WriteSink<W>,
-    errors: &mut E,
-) -> u8
-    ensures { WritesBytesTo S.System S.Input.Source S.Output.Sink system.now (joined parts.now)
-        name.now (target_in (reads_of arguments.now)) (writer_device W.contents output.old output.new)
-        output.new.forwarded (device_of E.taken E.has_failed errors.old errors.new) result }
-{
-    match arguments.last(Flag::Output) {
-        Some(Some(target)) if target != "-" => {
-            write_to_file(alloc, parts, system, name, target, errors)
-        }
-        _ => write_to_output(parts, system, output, errors),
-    }
-}
-
-// Writes the data of the section that was found. Returns the exit status, and says if there is none.
-fn write_found<S: System, W: Write, E: Sink>(
-    alloc: Global,
-    wanted: &str,
-    found: ParserResult<Option<CustomSectionReader<'_>>>,
-    arguments: &Arguments<'_>,
-    system: &S,
-    name: &str,
-    output: &mut WriteSink<W>,
-    errors: &mut E,
-) -> u8
-    ensures { EndsExtract S.System S.Input.Source S.Output.Sink system.now (reads_of arguments.now)
-        (writer_device W.contents output.old output.new) output.new.forwarded
-        (device_of E.taken E.has_failed errors.old errors.new) wanted.now name.now found.entry
-        result }
-{
-    match found {
-        Ok(Some(section)) => {
-            write_joined(
-                alloc,
-                &[section.data()],
-                arguments,
-                system,
-                name,
-                output,
-                errors,
-            )
-        }
-        Ok(None) => {
-            warn_of_missing(Verb::Extract, name, wanted, errors);
-            1
-        }
-        Err(error) => report_fault(name, &error, errors),
-    }
-}
-
-// Writes the section of a file or of standard input. Returns the exit status.
-fn extract_from<S: System, W: Write, E: Sink>(
-    alloc: Global,
-    wanted: Wanted<'_>,
-    arguments: &Arguments<'_>,
-    system: &S,
-    name: &str,
-    output: &mut WriteSink<W>,
-    errors: &mut E,
-) -> u8
-    ensures { ExtractsFrom S.System S.Input.Source S.Output.Sink system.now (reads_of arguments.now)
-        (writer_device W.contents output.old output.new) output.new.forwarded
-        (device_of E.taken E.has_failed errors.old errors.new) wanted.entry.name.now
-        wanted.entry.before name.now result }
-{
-    let bytes = match hold(alloc, name, system, errors) {
-        Ok(bytes) => bytes,
-        Err(status) => return status,
-    };
-    let found = find(bytes.as_slice(), wanted);
-    write_found(
-        alloc,
-        wanted.name,
-        found,
-        arguments,
-        system,
-        name,
-        output,
-        errors,
-    )
-}
-
 // Parses the value of `--index`: a number from 1 on. Returns how many sections come before.
 fn before_of(value: Option<Option<&str>>) -> Option<u64>
     ensures { Skips (option_map text_if_any value.entry) result }
@@ -253,70 +85,65 @@ fn word_of<'a>(value: Option<Option<&'a str>>) -> &'a str
     }
 }
 
-// Says that the value of `--index` is wrong. Returns the exit status 2.
-fn complain_of_index<E: Sink>(value: Option<Option<&str>>, errors: &mut E) -> u8
-    ensures status { result ≡ 2 }
-    ensures says { Says (device_of E.taken E.has_failed errors.old errors.new)
-        (wrong_value_text Extract (codes "--index") (value_text (option_map text_if_any value.entry))) }
-{
-    complain(
-        Complaint::WrongValue(Verb::Extract, "--index", word_of(value)),
-        errors,
-    )
-}
-
-// Writes the section with this name of a file, or refuses the value of `--index`. Returns the exit status.
-fn extract_file<S: System, W: Write, E: Sink>(
-    alloc: Global,
-    wanted: &str,
-    name: &str,
-    arguments: &Arguments<'_>,
-    system: &S,
-    output: &mut WriteSink<W>,
-    errors: &mut E,
-) -> u8
-    ensures { ExtractsFile S.System S.Input.Source S.Output.Sink system.now (reads_of arguments.now)
-        (writer_device W.contents output.old output.new) output.new.forwarded
-        (device_of E.taken E.has_failed errors.old errors.new) wanted.now name.now result }
-{
-    let index = arguments.last(Flag::Index);
-    match before_of(index) {
-        Some(before) => {
-            let wanted = Wanted {
-                name: wanted,
-                before,
-            };
-            extract_from(alloc, wanted, arguments, system, name, output, errors)
+impl<S: System, W: Write, E: Sink> Runner<S, W, E> {
+    // Returns the name of the section, and the file: standard input if there is none.
+    fn wanted_of<'a>(&mut self, operands: &[&'a str]) -> Result<(&'a str, &'a str), u8>
+        ensures { TakesSection (texts operands.now) result self.old self.new }
+    {
+        match operands {
+            [] => Err(self.complain(Complaint::Few(Verb::Extract, "NAME"))),
+            [wanted] => Ok((wanted, "-")),
+            [wanted, name] => Ok((wanted, name)),
+            [_, _, extra, ..] => Err(self.complain(Complaint::Extra(Verb::Extract, extra))),
         }
-        None => complain_of_index(index, errors),
+    }
+
+    // Returns how many sections come before the wanted one.
+    fn skips_of(&mut self, arguments: &Arguments<'_>) -> Result<u64, u8>
+        ensures { TakesIndex (last_value option.Index None (reads_of arguments.now))
+            result self.old self.new }
+    {
+        let index = arguments.last(Flag::Index);
+        match before_of(index) {
+            Some(before) => Ok(before),
+            None => {
+                let complaint = Complaint::WrongValue(Verb::Extract, "--index", word_of(index));
+                Err(self.complain(complaint))
+            }
+        }
     }
 }
 
-/// Runs `extract`. Returns the exit status.
+/// Runs `extract`: writes the data of a custom section of a file or of standard input.
 ///
 /// # Errors
 ///
-/// `AllocError` when an allocation fails before anything is read.
+/// The exit status, if it is not 0.
 pub(crate) fn extract<S: System, W: Write, E: Sink>(
     alloc: Global,
     arguments: &Arguments<'_>,
-    system: &S,
-    output: &mut WriteSink<W>,
-    errors: &mut E,
-) -> Result<u8, AllocError>
+    runner: &mut Runner<S, W, E>,
+) -> Result<(), u8>
     // Proved: `extract` reads the file that is named, or standard input, and writes the data of the
     //   section that it finds, to the output or to the file of `--output`, which is replaced only
-    //   if all was written; or it says why not [`extract` (`Extracts`: `FindsSection`,
-    //   `ReplacesBytes`)]
-    ensures { Extracts S.System S.Input.Source S.Output.Sink system.now (reads_of arguments.now)
-        (writer_device W.contents output.old output.new) output.new.forwarded
-        (device_of E.taken E.has_failed errors.old errors.new) result }
+    //   if all was written; or it says why not. No other file is created or replaced [`extract`
+    //   (`Extracts`: `FindsSection`, `ReplacesBytes`)]
+    ensures { Extracts S.System S.Input.Source S.Output.Sink (reads_of arguments.now)
+        result runner.old runner.new }
 {
-    let operands = arguments.operands(alloc)?;
-    match operands.as_slice() {
-        [] => Ok(complain(Complaint::Few(Verb::Extract, "NAME"), errors)),
-        [wanted] => Ok(extract_file(alloc, wanted, "-", arguments, system, output, errors)),
-        [wanted, name] => Ok(extract_file(alloc, wanted, name, arguments, system, output, errors)),
-        [_, _, extra, ..] => Ok(complain(Complaint::Extra(Verb::Extract, extra), errors)),
+    let operands = runner.allocated(arguments.operands(alloc))?;
+    let (wanted, name) = runner.wanted_of(&operands)?;
+    let before = runner.skips_of(arguments)?;
+    let bytes = runner.hold(alloc, name)?;
+    let found = find(
+        &bytes,
+        Wanted {
+            name: wanted,
+            before,
+        },
+    );
+    match runner.sound(name, found)? {
+        Some(section) => runner.write_to(alloc, &[section.data()], name, target_of(arguments)),
+        None => Err(runner.miss(Verb::Extract, name, wanted)),
     }
 }

@@ -52,9 +52,9 @@ impl<'a> System for Host<'a> {
 
     ghost shows = { λ host result. Unit {0} };
 
-    ghost creates = { λ host input name result. Unit {0} };
+    ghost creates = { λ host input name result later. Unit {0} };
 
-    ghost replaces = { λ host output is_complete result. Unit {0} };
+    ghost replaces = { λ host output is_complete result later. Unit {0} };
 
     fn open(&self, name: &str) -> Result<ReadSource<Input<'a>>, Cause> {
         if name == "-" {
@@ -79,14 +79,14 @@ impl<'a> System for Host<'a> {
         self.rt.stdout().is_terminal()
     }
 
-    fn create(&self, alloc: Global, input: &str, name: &str) -> Result<Replacement<'a>, Cause> {
+    fn create(&mut self, alloc: Global, input: &str, name: &str) -> Result<Replacement<'a>, Cause> {
         match Replacement::create(self.rt, self.output_failure, alloc, input, name) {
             Ok(output) => Ok(output),
             Err(error) => Err(Cause::of(&error)),
         }
     }
 
-    fn replace(&self, output: Replacement<'a>, is_complete: bool) -> Result<(), Cause> {
+    fn replace(&mut self, output: Replacement<'a>, is_complete: bool) -> Result<(), Cause> {
         match output.end(is_complete) {
             Ok(()) => Ok(()),
             Err(error) => Err(Cause::of(&error)),

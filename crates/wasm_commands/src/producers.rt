@@ -1,27 +1,25 @@
 // The command `producers`: shows or changes what a module was produced with.
 ghost use Rattle.std.specs.Prelude.{◌≡◌, ◌<◌, ◌^◌, ◌++◌, IfOk, OnOk, is_some};
-ghost use Rattle.wasm_commands.specs.ArgumentLists.{has_option, values_in};
-ghost use Rattle.wasm_commands.specs.Commands.{Produces, ProducersBy, ShowsProducers};
-ghost use Rattle.wasm_commands.specs.Parsing.{reads_of, texts};
-ghost use Rattle.wasm_commands.specs.RewriteCommands.{FindsChange, SetsFile, SetsIn, SetsProducers, SetsSection, is_setting, no_setting, wrong_setting};
-ghost use Rattle.wasm_commands.specs.Rewrites.{WritesBytesTo, target_in};
-ghost use Rattle.wasm_commands.specs.Systems.{IfAllocated, platform};
+ghost use Rattle.wasm_commands.specs.ArgumentLists.{values_in};
+ghost use Rattle.wasm_commands.specs.Commands.{Produces};
+ghost use Rattle.wasm_commands.specs.Parsing.{reads_of, text_if_any, texts};
+ghost use Rattle.wasm_commands.specs.RewriteCommands.{FindsChange, SetsNew, SetsProducers, TakesSettings, is_setting, no_setting, wrong_setting};
 ghost use Rattle.wasm_commands.specs.declared.options.Flag.TheVariants as option;
-ghost use Rattle.wasm_edits.specs.Encoded.{Fits, encoded, encoded_section};
-ghost use Rattle.wasm_io.specs.Calls.{device_of, writer_device};
+ghost use Rattle.wasm_edits.specs.Encoded.{encoded};
 
 use crate::arguments::Arguments;
 use crate::around::{Around, find_first};
 use crate::dump::show;
-use crate::extract::{Wanted, find, write_joined};
-use crate::messages::{Complaint, complain, report_fault};
+use crate::extract::{Wanted, find};
+use crate::messages::Complaint;
 use crate::options::{Flag, Verb};
-use crate::rewriting::hold;
+use crate::rewriting::target_of;
+use crate::runner::Runner;
 use crate::system::System;
 use std::alloc::{AllocError, Global};
 use std::io::Write;
-use wasm_edits::{NewSection, encode};
-use wasm_io::{Sink, WriteSink};
+use wasm_edits::NewSection;
+use wasm_io::Sink;
 use wasm_parser::{
     CustomSectionReader, ProducersField, ProducersFieldValue, ProducersSectionReader,
     Result as ParserResult,
@@ -228,218 +226,99 @@ fn new_data(
     }
 }
 
-// Writes a stream with this section between these bytes. Returns the exit status.
-fn write_between<S: System, W: Write, E: Sink>(
-    alloc: Global,
-    new: NewSection<'_>,
-    around: Around<'_>,
-    name: &str,
-    arguments: &Arguments<'_>,
-    system: &S,
-    output: &mut WriteSink<W>,
-    errors: &mut E,
-) -> Result<u8, AllocError>
-    requires { Fits new }
-    ensures { IfAllocated (WritesBytesTo S.System S.Input.Source S.Output.Sink system.now
-        (around.entry.before.now ++ (encoded_section new.entry ++ around.entry.after.now)) name.now
-        (target_in (reads_of arguments.now)) (writer_device W.contents output.old output.new)
-        output.new.forwarded (device_of E.taken E.has_failed errors.old errors.new))
-        (writer_device W.contents output.old output.new)
-        (device_of E.taken E.has_failed errors.old errors.new) result }
+// Returns what `--set` sets.
+fn settings_of<'a, S: System, W: Write, E: Sink>(
+    words: &[&'a str],
+    parsed: Result<Vec<Setting<'a>>, &'a str>,
+    runner: &mut Runner<S, W, E>,
+) -> Result<Vec<Setting<'a>>, u8>
+    requires { wrong_setting parsed ≡ no_setting (texts words.now) }
+    ensures { TakesSettings (texts words.now) result runner.old runner.new }
 {
-    let Ok(section) = encode(alloc, new) else {
-        return Err(AllocError);
-    };
-    let parts = [around.before, section.as_slice(), around.after];
-    Ok(write_joined(alloc, &parts, arguments, system, name, output, errors))
+    match parsed {
+        Ok(settings) => Ok(settings),
+        Err(word) => { Err(runner.complain(Complaint::WrongValue(Verb::Producers, "--set", word))) }
+    }
 }
 
-// Writes a stream with this section in place of its first one with the name, or after its own sections. Returns the
-// exit status.
+// Writes a stream with this section in place of its first one with the name, or after its own sections, unless the
+// section is too large.
 fn write_set<S: System, W: Write, E: Sink>(
     alloc: Global,
     new: NewSection<'_>,
     bytes: &[u8],
     name: &str,
-    arguments: &Arguments<'_>,
-    system: &S,
-    output: &mut WriteSink<W>,
-    errors: &mut E,
-) -> Result<u8, AllocError>
-    requires { Fits new }
-    ensures { IfAllocated (SetsIn S.System S.Input.Source S.Output.Sink system.now
-        (reads_of arguments.now) (writer_device W.contents output.old output.new)
-        output.new.forwarded (device_of E.taken E.has_failed errors.old errors.new) new.entry
-        name.now bytes.now) (writer_device W.contents output.old output.new)
-        (device_of E.taken E.has_failed errors.old errors.new) result }
+    target: Option<&str>,
+    runner: &mut Runner<S, W, E>,
+) -> Result<(), u8>
+    ensures { SetsNew S.System S.Input.Source S.Output.Sink (text_if_any target.entry)
+        new.entry name.now bytes.now result runner.old runner.new }
 {
+    if !new.fits() {
+        return Err(runner.complain(Complaint::TooLarge(Verb::Producers, NAME)));
+    }
     // A slice is shorter than 2^64 bytes, which the proof wants to know.
     let _length = bytes.len();
-    match find_first(bytes, new.name) {
-        Ok(Some(around)) => {
-            write_between(alloc, new, around, name, arguments, system, output, errors)
-        }
-        Ok(None) => {
-            let around = Around {
-                before: bytes,
-                after: b"",
-            };
-            write_between(alloc, new, around, name, arguments, system, output, errors)
-        }
-        Err(error) => Ok(report_fault(name, &error, errors)),
-    }
+    let found = runner.sound(name, find_first(bytes, new.name))?;
+    let Around { before, after } = found.unwrap_or(Around {
+        before: bytes,
+        after: b"",
+    });
+    let section = runner.encoded(alloc, new)?;
+    runner.write_to(alloc, &[before, &section, after], name, target)
 }
 
-// Writes a stream with new data of the section, unless they are too large. Returns the exit status.
-fn write_new<S: System, W: Write, E: Sink>(
-    alloc: Global,
-    data: &[u8],
-    bytes: &[u8],
-    name: &str,
-    arguments: &Arguments<'_>,
-    system: &S,
-    output: &mut WriteSink<W>,
-    errors: &mut E,
-) -> Result<u8, AllocError>
-    ensures { IfAllocated (SetsSection S.System S.Input.Source S.Output.Sink system.now
-        (reads_of arguments.now) (writer_device W.contents output.old output.new)
-        output.new.forwarded (device_of E.taken E.has_failed errors.old errors.new) name.now
-        bytes.now) (writer_device W.contents output.old output.new)
-        (device_of E.taken E.has_failed errors.old errors.new) result }
-{
-    let new = NewSection { name: NAME, data };
-    if new.fits() {
-        write_set(alloc, new, bytes, name, arguments, system, output, errors)
-    } else {
-        Ok(complain(Complaint::TooLarge(Verb::Producers, NAME), errors))
-    }
-}
-
-// Writes a file with these settings. Returns the exit status.
-fn change<S: System, W: Write, E: Sink>(
-    alloc: Global,
-    settings: &[Setting<'_>],
-    name: &str,
-    arguments: &Arguments<'_>,
-    system: &S,
-    output: &mut WriteSink<W>,
-    errors: &mut E,
-) -> Result<u8, AllocError>
-    ensures { IfAllocated (SetsFile S.System S.Input.Source S.Output.Sink system.now
-        (reads_of arguments.now) (writer_device W.contents output.old output.new)
-        output.new.forwarded (device_of E.taken E.has_failed errors.old errors.new) name.now)
-        (writer_device W.contents output.old output.new)
-        (device_of E.taken E.has_failed errors.old errors.new) result }
-{
-    let bytes = match hold(alloc, name, system, errors) {
-        Ok(bytes) => bytes,
-        Err(status) => return Ok(status),
-    };
-    let data = match new_data(alloc, &bytes, settings)? {
-        Ok(data) => data,
-        Err(error) => return Ok(report_fault(name, &error, errors)),
-    };
-    write_new(
-        alloc, &data, &bytes, name, arguments, system, output, errors,
-    )
-}
-
-// Runs `producers` with these values of `--set`. Returns the exit status.
+// Runs `producers` with these values of `--set`.
 fn set_all<S: System, W: Write, E: Sink>(
     alloc: Global,
     words: &[&str],
     arguments: &Arguments<'_>,
-    system: &S,
-    output: &mut WriteSink<W>,
-    errors: &mut E,
-) -> Result<u8, AllocError>
+    runner: &mut Runner<S, W, E>,
+) -> Result<(), u8>
     requires { texts words.now ≡ values_in option.Set (reads_of arguments.now) }
     // Proved: `producers --set` reads the file that is named, or standard input, and writes it with
     //   a new `producers` section in place of the first that it has, or at the end, to the output or to
     //   the file of `--output`, which is replaced only if all was written; or it says why not. All other
-    //   bytes stay. What the new section holds is not stated [`set_all` (`SetsProducers`:
-    //   `ReplacesFirst`)]
-    ensures { SetsProducers S.System S.Input.Source S.Output.Sink system.now (reads_of arguments.now)
-        (writer_device W.contents output.old output.new) output.new.forwarded
-        (device_of E.taken E.has_failed errors.old errors.new) result }
+    //   bytes stay, and no other file is created or replaced. What the new section holds is not stated
+    //   [`set_all` (`SetsProducers`: `ReplacesFirst`)]
+    ensures { SetsProducers S.System S.Input.Source S.Output.Sink (reads_of arguments.now)
+        result runner.old runner.new }
 {
-    let settings = match parse_settings(alloc, words)? {
-        Ok(settings) => settings,
-        Err(word) => {
-            let complaint = Complaint::WrongValue(Verb::Producers, "--set", word);
-            return Ok(complain(complaint, errors));
-        }
+    let parsed = runner.allocated(parse_settings(alloc, words))?;
+    let settings = settings_of(words, parsed, runner)?;
+    let operands = runner.allocated(arguments.operands(alloc))?;
+    let name = runner.file_of(Verb::Producers, &operands)?;
+    let bytes = runner.hold(alloc, name)?;
+    let changed = runner.allocated(new_data(alloc, &bytes, &settings))?;
+    let data = runner.sound(name, changed)?;
+    let new = NewSection {
+        name: NAME,
+        data: &data,
     };
-    let names = arguments.operands(alloc)?;
-    let name = match names.as_slice() {
-        [] => "-",
-        [name] => name,
-        [_, extra, ..] => return Ok(complain(Complaint::Extra(Verb::Producers, extra), errors)),
-    };
-    change(alloc, &settings, name, arguments, system, output, errors)
+    write_set(alloc, new, &bytes, name, target_of(arguments), runner)
 }
 
-// Shows the section, unless `--output` is given. Returns the exit status, and the output.
-fn show_section<S: System, W: Write, E: Sink>(
-    alloc: Global,
-    arguments: &Arguments<'_>,
-    system: &S,
-    output: WriteSink<W>,
-    errors: &mut E,
-) -> (Result<u8, AllocError>, WriteSink<W>)
-    ensures { ShowsProducers (platform S.System S.Input.Source S.Output.Sink system.now)
-        (has_option option.Output (reads_of arguments.now)) (reads_of arguments.now)
-        (writer_device W.contents output result.1) result.1.forwarded
-        (device_of E.taken E.has_failed errors.old errors.new) result.0 }
-{
-    if arguments.has(Flag::Output) {
-        let complaint = Complaint::Few(Verb::Producers, "--set with --output");
-        return (Ok(complain(complaint, errors)), output);
-    }
-    show(alloc, Verb::Producers, arguments, system, output, errors)
-}
-
-// Runs `producers` with these values of `--set`, if there are any. Returns the exit status, and the output.
-fn set_or_show<S: System, W: Write, E: Sink>(
-    alloc: Global,
-    words: &[&str],
-    arguments: &Arguments<'_>,
-    system: &S,
-    mut output: WriteSink<W>,
-    errors: &mut E,
-) -> (Result<u8, AllocError>, WriteSink<W>)
-    requires { texts words.now ≡ values_in option.Set (reads_of arguments.now) }
-    ensures { ProducersBy (platform S.System S.Input.Source S.Output.Sink system.now) (texts words.now)
-        (reads_of arguments.now) (writer_device W.contents output result.1)
-        result.1.forwarded (device_of E.taken E.has_failed errors.old errors.new) result.0 }
-{
-    match words {
-        [] => show_section(alloc, arguments, system, output, errors),
-        _ => {
-            let status = set_all(alloc, words, arguments, system, &mut output, errors);
-            (status, output)
-        }
-    }
-}
-
-/// Runs `producers`. Returns the exit status, and the output.
-///
-/// # Errors
-///
-/// `AllocError` when an allocation fails before anything is written.
+/// Runs `producers`: sets the versions of `--set`, or shows the section if there are none. Returns how it ended, and the
+/// run.
 pub(crate) fn producers<S: System, W: Write, E: Sink>(
     alloc: Global,
     arguments: &Arguments<'_>,
-    system: &S,
-    output: WriteSink<W>,
-    errors: &mut E,
-) -> (Result<u8, AllocError>, WriteSink<W>)
-    ensures { Produces (platform S.System S.Input.Source S.Output.Sink system.now)
-        (reads_of arguments.now) (writer_device W.contents output result.1)
-        result.1.forwarded (device_of E.taken E.has_failed errors.old errors.new) result.0 }
+    mut runner: Runner<S, W, E>,
+) -> (Result<(), u8>, Runner<S, W, E>)
+    ensures { Produces S.System S.Input.Source S.Output.Sink (reads_of arguments.now)
+        result.0 runner result.1 }
 {
-    match arguments.values(alloc, Flag::Set) {
-        Ok(words) => set_or_show(alloc, &words, arguments, system, output, errors),
-        Err(refused) => (Err(refused), output),
+    let words = match runner.allocated(arguments.values(alloc, Flag::Set)) {
+        Ok(words) => words,
+        Err(status) => return (Err(status), runner),
+    };
+    if !words.is_empty() {
+        let ended = set_all(alloc, &words, arguments, &mut runner);
+        return (ended, runner);
     }
+    if arguments.has(Flag::Output) {
+        let complaint = Complaint::Few(Verb::Producers, "--set with --output");
+        return (Err(runner.complain(complaint)), runner);
+    }
+    show(alloc, Verb::Producers, arguments, runner)
 }

@@ -1,25 +1,26 @@
 // Writing a stream with other custom sections, which `strip` and `add` share.
-ghost use Rattle.std.specs.Prelude.{All, ◌==◌};
+ghost use Rattle.std.specs.Prelude.{◌≡◌, All, is_ok};
 ghost use Rattle.std.specs.Io.KnownBytes.{Keeps};
-ghost use Rattle.wasm_commands.specs.Parsing.{reads_of};
-ghost use Rattle.wasm_commands.specs.Rewrites.{ChangesFile, EditsHeld, EditsOriginal, EndsFile, EndsOutput, EndsRun, EndsTarget, Finds, FlushesAtEnd, Holds, WritesFile, WritesOut, WritesTo, target_in};
+ghost use Rattle.wasm_commands.specs.Parsing.{reads_of, text_if_any};
+ghost use Rattle.wasm_commands.specs.Rewrites.{Changes, Closes, EditsHeld, EditsOriginal, EditsOut, EditsTarget, EditsTo, EndsFile, EndsRun, EndsTarget, Finds, FlushesAtEnd, WritesBytesTarget, WritesTo, target_in};
+ghost use Rattle.wasm_console.specs.Messages.{joined};
 ghost use Rattle.wasm_edits.specs.Edits.{CanBeMade};
 ghost use Rattle.wasm_io.specs.Calls.{device_of, writer_device};
 
 mod twice;
 
 use crate::arguments::Arguments;
-use crate::messages::{refuse_file, refuse_run, refuse_target, report, report_fault};
 use crate::options::Flag;
 use crate::reasons::Cause;
+use crate::runner::{Runner, writes_all};
 use crate::system::System;
 use std::alloc::Global;
 use std::io::Write;
 use twice::edit_twice;
-use wasm_console::{PIECE, read_all};
+use wasm_base::Fault;
+use wasm_console::PIECE;
 use wasm_edits::{Edit, edit, edit_stream};
 use wasm_io::{ListError, Sink, WriteSink, write_all};
-use wasm_parser::Fault;
 use wasm_streams::Ended;
 
 /// A stream to change: a regular file, which is opened for each reading, or what was read of another one.
@@ -29,54 +30,6 @@ pub(crate) struct Original<'a> {
     pub(crate) held: Option<Vec<u8>>,
     /// Whether a reading has shown that it has no fault.
     pub(crate) is_checked: bool,
-}
-
-/// Reads a file into memory. Says why if that fails, and returns the exit status.
-pub(crate) fn hold<S: System, E: Sink>(
-    alloc: Global,
-    name: &str,
-    system: &S,
-    errors: &mut E,
-) -> Result<Vec<u8>, u8>
-    ensures { Holds S.System S.Input.Source S.Output.Sink system.now name.now result
-        (device_of E.taken E.has_failed errors.old errors.new) }
-{
-    let mut input = match system.open(name) {
-        Ok(input) => input,
-        Err(cause) => return Err(refuse_file(name, cause, errors)),
-    };
-    match read_all(alloc, &mut input) {
-        Ok(bytes) => Ok(bytes),
-        Err(why) => Err(refuse_run(name, why, system.causes(), errors)),
-    }
-}
-
-/// Returns the stream to change. One that can be read only once is read. Says why if that fails, and returns the exit
-/// status.
-pub(crate) fn original_of<'a, S: System, E: Sink>(
-    alloc: Global,
-    name: &'a str,
-    system: &S,
-    errors: &mut E,
-) -> Result<Original<'a>, u8>
-    ensures { Finds S.System S.Input.Source S.Output.Sink system.now name.now result
-        (device_of E.taken E.has_failed errors.old errors.new) }
-{
-    if system.is_regular(name) {
-        return Ok(Original {
-            name,
-            held: None,
-            is_checked: false,
-        });
-    }
-    match hold(alloc, name, system, errors) {
-        Ok(bytes) => Ok(Original {
-            name,
-            held: Some(bytes),
-            is_checked: false,
-        }),
-        Err(status) => Err(status),
-    }
 }
 
 // Writes a stream in memory with edits, unless it has a fault.
@@ -143,156 +96,197 @@ fn flushed<W: Write>(
     }
 }
 
-/// Returns the exit status of a run. Prints the fault of the stream, or why the run failed.
-pub(crate) fn answer<E: Sink>(
-    name: &str,
-    how: Result<Ended, ListError>,
-    system: &impl System,
-    errors: &mut E,
-) -> u8
-    ensures { EndsRun name.now how (device_of E.taken E.has_failed errors.old errors.new) result }
-{
-    match how {
-        Ok(Ended::Fault(error)) => report_fault(name, &error, errors),
-        _ => report(name, &how, system.causes(), errors),
-    }
-}
-
-// Flushes what was written, and returns the exit status. Says why if the file could not be opened.
-fn end_output<W: Write, E: Sink>(
-    name: &str,
-    edited: Result<Result<Ended, ListError>, Cause>,
-    system: &impl System,
-    output: &mut WriteSink<W>,
-    errors: &mut E,
-) -> u8
-    ensures { EndsOutput name.now edited (writer_device W.contents output.old output.new)
-        output.new.forwarded (device_of E.taken E.has_failed errors.old errors.new) result }
-{
-    match edited {
-        Ok(how) => {
-            let how = flushed(how, output);
-            answer(name, how, system, errors)
-        }
-        Err(cause) => refuse_file(name, cause, errors),
-    }
-}
-
-// Writes a stream with edits to the output. Returns the exit status.
-fn write_to_output<S: System, W: Write, E: Sink>(
-    alloc: Global,
-    edits: &[Edit<'_>],
-    original: &Original<'_>,
-    system: &S,
-    output: &mut WriteSink<W>,
-    errors: &mut E,
-) -> u8
-    requires { All CanBeMade edits.now }
-    ensures { WritesOut S.System S.Input.Source S.Output.Sink system.now edits.now original.now
-        (writer_device W.contents output.old output.new) output.new.forwarded
-        (device_of E.taken E.has_failed errors.old errors.new) result }
-{
-    let edited = edit_original(alloc, edits, original, system, output);
-    end_output(original.name, edited, system, output, errors)
-}
-
-/// Replaces a file by what was written, if the status is 0, and discards it otherwise. Returns the exit status.
-pub(crate) fn end_target<S: System, E: Sink>(
-    status: u8,
-    target: &str,
-    written: S::Output,
-    system: &S,
-    errors: &mut E,
-) -> u8
-    ensures { EndsTarget S.System S.Input.Source S.Output.Sink system.now target.now written
-        (status == 0) status (device_of E.taken E.has_failed errors.old errors.new) result }
-{
-    match system.replace(written, status == 0) {
-        Ok(()) => status,
-        Err(cause) => refuse_file(target, cause, errors),
-    }
-}
-
-// Returns the exit status of a run that wrote a file. Prints the fault of the stream, or why the run failed.
-fn answer_file<E: Sink>(
-    name: &str,
-    target: &str,
-    edited: Result<Result<Ended, ListError>, Cause>,
-    system: &impl System,
-    errors: &mut E,
-) -> u8
-    ensures { EndsFile name.now target.now edited
-        (device_of E.taken E.has_failed errors.old errors.new) result }
-{
-    match edited {
-        Ok(Err(ListError::Output)) => refuse_target(target, system.causes(), errors),
-        Ok(how) => answer(name, how, system, errors),
-        Err(cause) => refuse_file(name, cause, errors),
-    }
-}
-
-// Writes a stream with edits to a file, which is replaced once all of it is written. Returns the exit status.
-fn write_to_file<S: System, E: Sink>(
-    alloc: Global,
-    edits: &[Edit<'_>],
-    original: &Original<'_>,
-    system: &S,
-    target: &str,
-    errors: &mut E,
-) -> u8
-    requires { All CanBeMade edits.now }
-    ensures { WritesFile S.System S.Input.Source S.Output.Sink system.now edits.now original.now
-        target.now (device_of E.taken E.has_failed errors.old errors.new) result }
-{
-    let mut output = match system.create(alloc, original.name, target) {
-        Ok(output) => output,
-        Err(cause) => return refuse_file(target, cause, errors),
-    };
-    let edited = edit_original(alloc, edits, original, system, &mut output);
-    let status = answer_file(original.name, target, edited, system, errors);
-    end_target(status, target, output, system, errors)
-}
-
-/// Writes a stream with edits to where `--output` says. Returns the exit status.
-pub(crate) fn write_edited<S: System, W: Write, E: Sink>(
-    alloc: Global,
-    edits: &[Edit<'_>],
-    original: &Original<'_>,
-    arguments: &Arguments<'_>,
-    system: &S,
-    output: &mut WriteSink<W>,
-    errors: &mut E,
-) -> u8
-    requires { All CanBeMade edits.now }
-    ensures { WritesTo S.System S.Input.Source S.Output.Sink system.now edits.now original.now
-        (target_in (reads_of arguments.now)) (writer_device W.contents output.old output.new)
-        output.new.forwarded (device_of E.taken E.has_failed errors.old errors.new) result }
+/// Returns the file of `--output`, none if that is the output.
+pub(crate) fn target_of<'a>(arguments: &Arguments<'a>) -> Option<&'a str>
+    ensures { text_if_any result ≡ target_in (reads_of arguments.now) }
 {
     match arguments.last(Flag::Output) {
-        Some(Some(target)) if target != "-" => {
-            write_to_file(alloc, edits, original, system, target, errors)
-        }
-        _ => write_to_output(alloc, edits, original, system, output, errors),
+        Some(Some(target)) if target != "-" => Some(target),
+        _ => None,
     }
 }
 
-/// Writes a file or standard input with edits to where `--output` says. Returns the exit status.
-pub(crate) fn edit_file<S: System, W: Write, E: Sink>(
-    alloc: Global,
-    edits: &[Edit<'_>],
-    name: &str,
-    arguments: &Arguments<'_>,
-    system: &S,
-    output: &mut WriteSink<W>,
-    errors: &mut E,
-) -> u8
-    requires { All CanBeMade edits.now }
-    ensures { ChangesFile S.System S.Input.Source S.Output.Sink system.now edits.now name.now
-        (reads_of arguments.now) (writer_device W.contents output.old output.new)
-        output.new.forwarded (device_of E.taken E.has_failed errors.old errors.new) result }
-{
-    match original_of(alloc, name, system, errors) {
-        Ok(original) => write_edited(alloc, edits, &original, arguments, system, output, errors),
-        Err(status) => status,
+impl<S: System, W: Write, E: Sink> Runner<S, W, E> {
+    /// Returns the stream to change. One that can be read only once is read.
+    pub(crate) fn find<'a>(&mut self, alloc: Global, name: &'a str) -> Result<Original<'a>, u8>
+        ensures { Finds S.System S.Input.Source S.Output.Sink name.now result self.old self.new }
+    {
+        let held = if self.is_regular(name) {
+            None
+        } else {
+            Some(self.hold(alloc, name)?)
+        };
+        Ok(Original {
+            name,
+            held,
+            is_checked: false,
+        })
+    }
+
+    /// Ends a run over a stream: says its fault, or why the run failed.
+    pub(crate) fn end(&mut self, name: &str, how: Result<Ended, ListError>) -> Result<(), u8>
+        ensures { EndsRun name.now how result self.old self.new }
+    {
+        match how {
+            Ok(Ended::End) => Ok(()),
+            Ok(Ended::Fault(error)) => Err(self.report_fault(name, &error)),
+            Err(why) => Err(self.fail(name, why)),
+        }
+    }
+
+    // Writes a stream with edits to the output.
+    fn edit_output(
+        &mut self,
+        alloc: Global,
+        edits: &[Edit<'_>],
+        original: &Original<'_>,
+    ) -> Result<(), u8>
+        requires { All CanBeMade edits.now }
+        ensures { EditsOut S.System S.Input.Source S.Output.Sink edits.now original.now
+            result self.old self.new }
+    {
+        match edit_original(alloc, edits, original, &self.system, &mut self.output) {
+            Ok(how) => {
+                let how = flushed(how, &mut self.output);
+                self.end(original.name, how)
+            }
+            Err(cause) => Err(self.refuse(original.name, cause)),
+        }
+    }
+
+    // Writes a stream with edits to this file.
+    fn edit_into(
+        &self,
+        alloc: Global,
+        edits: &[Edit<'_>],
+        original: &Original<'_>,
+        output: &mut S::Output,
+    ) -> Result<Result<Ended, ListError>, Cause>
+        requires { All CanBeMade edits.now }
+        ensures { EditsOriginal S.System S.Input.Source S.Output.Sink self.now.system edits.now
+            original.now (device_of S.Output.taken S.Output.has_failed output.old output.new) result }
+    {
+        edit_original(alloc, edits, original, &self.system, output)
+    }
+
+    // Ends a run that wrote a file.
+    fn end_file(
+        &mut self,
+        name: &str,
+        target: &str,
+        edited: Result<Result<Ended, ListError>, Cause>,
+    ) -> Result<(), u8>
+        ensures { EndsFile name.now target.now edited result self.old self.new }
+    {
+        match edited {
+            Ok(Err(ListError::Output)) => Err(self.fail_target(target)),
+            Ok(how) => self.end(name, how),
+            Err(cause) => Err(self.refuse(name, cause)),
+        }
+    }
+
+    // Writes a stream with edits to a file, which is replaced once all of it is written.
+    fn edit_target(
+        &mut self,
+        alloc: Global,
+        edits: &[Edit<'_>],
+        original: &Original<'_>,
+        target: &str,
+    ) -> Result<(), u8>
+        requires { All CanBeMade edits.now }
+        ensures { EditsTarget S.System S.Input.Source S.Output.Sink edits.now original.now
+            target.now result self.old self.new }
+    {
+        let mut written = self.create(alloc, original.name, target)?;
+        let edited = self.edit_into(alloc, edits, original, &mut written);
+        let ended = self.end_file(original.name, target, edited);
+        self.close(target, written, ended)
+    }
+
+    /// Writes a stream with edits to a file, or to the output.
+    pub(crate) fn edit_to(
+        &mut self,
+        alloc: Global,
+        edits: &[Edit<'_>],
+        original: &Original<'_>,
+        target: Option<&str>,
+    ) -> Result<(), u8>
+        requires { All CanBeMade edits.now }
+        ensures { EditsTo S.System S.Input.Source S.Output.Sink edits.now original.now
+            (text_if_any target.entry) result self.old self.new }
+    {
+        match target {
+            Some(target) => self.edit_target(alloc, edits, original, target),
+            None => self.edit_output(alloc, edits, original),
+        }
+    }
+
+    /// Writes a file or standard input with edits to a file, or to the output.
+    pub(crate) fn edit_file(
+        &mut self,
+        alloc: Global,
+        edits: &[Edit<'_>],
+        name: &str,
+        target: Option<&str>,
+    ) -> Result<(), u8>
+        requires { All CanBeMade edits.now }
+        ensures { Changes S.System S.Input.Source S.Output.Sink edits.now name.now
+            (text_if_any target.entry) result self.old self.new }
+    {
+        let original = self.find(alloc, name)?;
+        self.edit_to(alloc, edits, &original, target)
+    }
+
+    // Ends a run that wrote bytes to a file.
+    fn end_target(&mut self, target: &str, is_complete: bool) -> Result<(), u8>
+        ensures { EndsTarget target.now is_complete result self.old self.new }
+    {
+        if is_complete {
+            return Ok(());
+        }
+        Err(self.fail_target(target))
+    }
+
+    // Replaces a file by what was written, if that ended well, and discards it otherwise.
+    fn close(&mut self, target: &str, written: S::Output, ended: Result<(), u8>) -> Result<(), u8>
+        ensures { Closes S.System S.Input.Source S.Output.Sink target.now written (is_ok ended)
+            ended result self.old self.new }
+    {
+        self.replace(target, written, ended.is_ok())?;
+        ended
+    }
+
+    // Writes bytes that are in several parts to a file, which is replaced once all of them are written.
+    fn write_target(
+        &mut self,
+        alloc: Global,
+        parts: &[&[u8]],
+        name: &str,
+        target: &str,
+    ) -> Result<(), u8>
+        ensures { WritesBytesTarget S.System S.Input.Source S.Output.Sink (joined parts.now)
+            name.now target.now result self.old self.new }
+    {
+        let mut written = self.create(alloc, name, target)?;
+        let is_complete = writes_all(&mut written, parts);
+        let ended = self.end_target(target, is_complete);
+        self.close(target, written, ended)
+    }
+
+    /// Writes bytes that are in several parts to a file, or to the output.
+    pub(crate) fn write_to(
+        &mut self,
+        alloc: Global,
+        parts: &[&[u8]],
+        name: &str,
+        target: Option<&str>,
+    ) -> Result<(), u8>
+        ensures { WritesTo S.System S.Input.Source S.Output.Sink (joined parts.now) name.now
+            (text_if_any target.entry) result self.old self.new }
+    {
+        match target {
+            Some(target) => self.write_target(alloc, parts, name, target),
+            None => self.write(parts),
+        }
     }
 }

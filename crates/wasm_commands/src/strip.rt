@@ -1,75 +1,61 @@
 // The command `strip`: removes custom sections.
-ghost use Rattle.std.specs.Prelude.{◌≡◌};
-ghost use Rattle.wasm_commands.specs.ArgumentLists.{values_in};
+ghost use Rattle.std.specs.Prelude.{◌≡◌, IfOk};
+ghost use Rattle.wasm_commands.specs.ArgumentLists.{operands_in, values_in};
 ghost use Rattle.wasm_commands.specs.Parsing.{reads_of, texts};
-ghost use Rattle.wasm_commands.specs.RewriteCommands.{Strips, StripsFile};
-ghost use Rattle.wasm_commands.specs.declared.options.Flag.TheVariants as option;
-ghost use Rattle.wasm_io.specs.Calls.{device_of, writer_device};
+ghost use Rattle.wasm_commands.specs.RewriteCommands.{IsStripAsked, Strips};
 
 use crate::arguments::Arguments;
-use crate::messages::{Complaint, complain};
 use crate::options::{Flag, Verb};
-use crate::rewriting::edit_file;
+use crate::rewriting::target_of;
+use crate::runner::Runner;
 use crate::system::System;
 use std::alloc::{AllocError, Global};
 use std::io::Write;
 use wasm_edits::{Edit, Keep};
-use wasm_io::{Sink, WriteSink};
+use wasm_io::Sink;
 
-// Removes the custom sections of a file or of standard input, except those that stay. Returns the exit status.
-fn strip_file<S: System, W: Write, E: Sink>(
-    alloc: Global,
-    kept: &[&str],
-    removed: &[&str],
-    name: &str,
-    arguments: &Arguments<'_>,
-    system: &S,
-    output: &mut WriteSink<W>,
-    errors: &mut E,
-) -> u8
-    requires kept { texts kept.now ≡ values_in option.Keep (reads_of arguments.now) }
-    requires removed { texts removed.now ≡ values_in option.Only (reads_of arguments.now) }
-    ensures { StripsFile S.System S.Input.Source S.Output.Sink system.now (reads_of arguments.now)
-        (writer_device W.contents output.old output.new) output.new.forwarded
-        (device_of E.taken E.has_failed errors.old errors.new) name.now result }
-{
-    let edits = [Edit::Keep(Keep {
-        names: arguments.has(Flag::KeepNames),
-        kept,
-        removed,
-    })];
-    edit_file(alloc, &edits, name, arguments, system, output, errors)
+// What `strip` was asked for: the sections that stay, those that are removed, and the operands.
+#[derive(Drop)]
+struct Asked<'a> {
+    kept: Vec<&'a str>,
+    removed: Vec<&'a str>,
+    operands: Vec<&'a str>,
 }
 
-/// Runs `strip`. Returns the exit status.
+// Returns what the arguments ask for.
+fn asked_by<'a>(alloc: Global, arguments: &Arguments<'a>) -> Result<Asked<'a>, AllocError>
+    ensures { IfOk result (λ asked. IsStripAsked (reads_of arguments.now) asked) }
+{
+    Ok(Asked {
+        kept: arguments.values(alloc, Flag::Keep)?,
+        removed: arguments.values(alloc, Flag::Only)?,
+        operands: arguments.operands(alloc)?,
+    })
+}
+
+/// Runs `strip`: removes the custom sections of a file or of standard input, except those that stay.
 ///
 /// # Errors
 ///
-/// `AllocError` when an allocation fails before anything is read.
+/// The exit status, if it is not 0.
 pub(crate) fn strip<S: System, W: Write, E: Sink>(
     alloc: Global,
     arguments: &Arguments<'_>,
-    system: &S,
-    output: &mut WriteSink<W>,
-    errors: &mut E,
-) -> Result<u8, AllocError>
+    runner: &mut Runner<S, W, E>,
+) -> Result<(), u8>
     // Proved: `strip` reads the file that is named, or standard input, and writes it with the
     //   custom sections that `--keep`, `--only` and `--keep-names` keep, to the output or to the
-    //   file of `--output`, which is replaced only if all was written; or it says why not
-    //   [`strip` (`Strips`: `ChangesFile`, `Replaces`)]
-    ensures { Strips S.System S.Input.Source S.Output.Sink system.now (reads_of arguments.now)
-        (writer_device W.contents output.old output.new) output.new.forwarded
-        (device_of E.taken E.has_failed errors.old errors.new) result }
+    //   file of `--output`, which is replaced only if all was written; or it says why not. No other
+    //   file is created or replaced [`strip` (`Strips`: `Changes`, `Replaces`)]
+    ensures { Strips S.System S.Input.Source S.Output.Sink (reads_of arguments.now)
+        result runner.old runner.new }
 {
-    let kept = arguments.values(alloc, Flag::Keep)?;
-    let removed = arguments.values(alloc, Flag::Only)?;
-    let names = arguments.operands(alloc)?;
-    let name = match names.as_slice() {
-        [] => "-",
-        [name] => name,
-        [_, extra, ..] => return Ok(complain(Complaint::Extra(Verb::Strip, extra), errors)),
-    };
-    Ok(strip_file(
-        alloc, &kept, &removed, name, arguments, system, output, errors,
-    ))
+    let asked = runner.allocated(asked_by(alloc, arguments))?;
+    let name = runner.file_of(Verb::Strip, &asked.operands)?;
+    let edits = [Edit::Keep(Keep {
+        names: arguments.has(Flag::KeepNames),
+        kept: &asked.kept,
+        removed: &asked.removed,
+    })];
+    runner.edit_file(alloc, &edits, name, target_of(arguments))
 }

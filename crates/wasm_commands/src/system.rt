@@ -7,7 +7,8 @@ use wasm_io::{Sink, Source};
 /// The files that commands read and write, and why they failed.
 ///
 /// Its ghost members say what each call may return, for the clauses of commands. They follow the system as far as `std`
-/// says what it does.
+/// says what it does. Those of the calls that change files also say what the system is afterwards, so that a clause sees
+/// each such call, and their order.
 pub trait System {
     ghost use Rattle.std.specs.Prelude.{ℕ, Bool, List, Result};
     ghost use Rattle.wasm_commands.specs.declared.reasons.Cause.{Cause};
@@ -26,11 +27,11 @@ pub trait System {
     /// Whether the output may be said to be a terminal.
     ghost shows: { Self → Bool → Type 0 };
 
-    /// What beginning a file that is to replace `name` may return.
-    ghost creates: { Self → (input name : List ℕ) → Result Self.Output Cause → Type 0 };
+    /// What beginning a file that is to replace `name` may return, and what the system then is.
+    ghost creates: { Self → (input name : List ℕ) → Result Self.Output Cause → Self → Type 0 };
 
-    /// What replacing a file by what was written, or discarding that, may return.
-    ghost replaces: { Self → Self.Output → (is_complete : Bool) → Result (Unit {0}) Cause → Type 0 };
+    /// What replacing a file by what was written, or discarding that, may return, and what the system then is.
+    ghost replaces: { Self → Self.Output → (is_complete : Bool) → Result (Unit {0}) Cause → Self → Type 0 };
 
     /// Opens a file, or standard input if its name is `-`.
     ///
@@ -53,16 +54,16 @@ pub trait System {
     /// # Errors
     ///
     /// Why the system does not create it.
-    fn create(&self, alloc: Global, input: &str, name: &str) -> Result<Self::Output, Cause>
-        ensures { creates self.now input.now name.now result };
+    fn create(&mut self, alloc: Global, input: &str, name: &str) -> Result<Self::Output, Cause>
+        ensures { creates self.old input.now name.now result self.new };
 
     /// Replaces the file by what was written, if all of it was written, and discards what was written otherwise.
     ///
     /// # Errors
     ///
     /// Why the system does not replace it. The file is then unchanged.
-    fn replace(&self, output: Self::Output, is_complete: bool) -> Result<(), Cause>
-        ensures { replaces self.now output is_complete result };
+    fn replace(&mut self, output: Self::Output, is_complete: bool) -> Result<(), Cause>
+        ensures { replaces self.old output is_complete result self.new };
 
     /// Shows from now on no progress of large files.
     fn hide_progress(&self);

@@ -9,11 +9,12 @@ mod strips;
 mod system;
 
 use std::alloc::Global;
+use std::io::Write;
 use std::process::Abort;
 use std::test::Fail;
-use system::Files;
-use wasm_commands::run;
-use wasm_io::{BoundedSink, Sink, WriteSink};
+use system::{Change, Files};
+use wasm_commands::{Runner, run};
+use wasm_io::{BoundedSink, WriteSink};
 
 /// A module with one function of type 5, and a custom section called `type`.
 pub(super) const MODULE: &[u8] =
@@ -34,18 +35,54 @@ fn words_of(alloc: Global, words: &[&str]) -> Result<Vec<String>, Fail> {
     Ok(arguments)
 }
 
-fn run_over<E: Sink>(
-    alloc: Global,
-    words: &[String],
-    files: &Files<'_>,
-    written: &mut Vec<u8>,
-    errors: &mut E,
-) -> u8 {
-    let (status, _output) = run(alloc, words, files, WriteSink::new(written), errors);
-    status
+// What a run returns and says, and the files after it.
+#[derive(Drop)]
+struct Ran<'a> {
+    status: u8,
+    said: BoundedSink,
+    files: Files<'a>,
 }
 
-// A run with these arguments over these files returns, writes and says this.
+// A run with these arguments over these files, whose messages have this room.
+fn run_over<'a, W: Write + Drop>(
+    alloc: Global,
+    words: &[String],
+    files: &Files<'a>,
+    output: W,
+    room: usize,
+) -> Result<Ran<'a>, Fail> {
+    let errors = BoundedSink::new(alloc, room)?;
+    let runner = Runner::new(files.again(), WriteSink::new(output), errors);
+    let (status, runner) = run(alloc, words, runner);
+    let (files, output, said) = runner.into_parts();
+    drop(output);
+    Ok(Ran {
+        status,
+        said,
+        files,
+    })
+}
+
+// A run with these arguments over these files returns, writes and says this, and does this to files.
+fn changes(
+    rt: &impl Abort,
+    alloc: Global,
+    words: &[&str],
+    files: &Files<'_>,
+    wanted: Wanted<'_>,
+    trace: &[Change],
+) -> Result<(), Fail> {
+    let arguments = words_of(alloc, words)?;
+    let mut written = Vec::<u8>::new(alloc);
+    let ran = run_over(alloc, &arguments, files, &mut written, 300)?;
+    assert_eq!(rt; written.as_slice(), wanted.1);
+    assert_eq!(rt; ran.said.written(), wanted.2);
+    assert_eq!(rt; ran.status, wanted.0);
+    assert!(rt; ran.files.changes() == trace);
+    Ok(())
+}
+
+// The same, and leaves all files as they are.
 fn answers(
     rt: &impl Abort,
     alloc: Global,
@@ -53,14 +90,7 @@ fn answers(
     files: &Files<'_>,
     wanted: Wanted<'_>,
 ) -> Result<(), Fail> {
-    let arguments = words_of(alloc, words)?;
-    let mut written = Vec::<u8>::new(alloc);
-    let mut errors = BoundedSink::new(alloc, 300)?;
-    let status = run_over(alloc, &arguments, files, &mut written, &mut errors);
-    assert_eq!(rt; written.as_slice(), wanted.1);
-    assert_eq!(rt; errors.written(), wanted.2);
-    assert_eq!(rt; status, wanted.0);
-    Ok(())
+    changes(rt, alloc, words, files, wanted, &[])
 }
 
 /// A run with these arguments over this standard input returns, writes and says this.

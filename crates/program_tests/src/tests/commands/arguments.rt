@@ -6,7 +6,7 @@ use std::env::Args;
 use std::io;
 use std::process::{Abort, ExitCode};
 use std::test::Fail;
-use wasm_commands::run_program;
+use wasm_commands::{Runner, run_program};
 use wasm_io::{BoundedSink, WriteSink};
 
 #[test]
@@ -106,14 +106,16 @@ fn cannot_begin(
     wanted: (u8, &[u8]),
 ) -> Result<(), Fail> {
     let mut written = Vec::<u8>::new(alloc);
-    let mut errors = BoundedSink::new(alloc, 100)?;
+    let errors = BoundedSink::new(alloc, 100)?;
     let arguments: io::Result<Args> = Err(io::Error::from(kind));
     let output = WriteSink::new(&mut written);
-    let files = Files::of_input(MODULE);
-    let (status, output) = run_program(alloc, arguments, &files, output, &mut errors);
+    let runner = Runner::new(Files::of_input(MODULE), output, errors);
+    let (status, runner) = run_program(alloc, arguments, runner);
+    let (files, output, said) = runner.into_parts();
     drop(output);
     assert!(rt; status == ExitCode::from(wanted.0));
-    assert_eq!(rt; errors.written(), wanted.1);
+    assert_eq!(rt; said.written(), wanted.1);
+    assert!(rt; files.changes().is_empty());
     assert!(rt; written.is_empty());
     Ok(())
 }

@@ -5,8 +5,6 @@ use std::alloc::Global;
 use std::io::{self, Write};
 use std::process::Abort;
 use std::test::Fail;
-use wasm_commands::run;
-use wasm_io::{BoundedSink, WriteSink};
 
 const DUMP: &[u8] = b"version 0 8 1 module
 section 3 10 12 1 function
@@ -262,13 +260,6 @@ impl Write for Stuck {
     }
 }
 
-// The status of a run whose output fails at its end.
-fn run_stuck(alloc: Global, words: &[String], errors: &mut BoundedSink) -> u8 {
-    let output = WriteSink::new(Stuck);
-    let (status, _output) = run(alloc, words, &Files::of_input(MODULE), output, errors);
-    status
-}
-
 #[test]
 fn says_that_the_output_failed(rt: HostRuntime) -> Result<(), Fail> {
     let asked: [&[&str]; 7] = [
@@ -281,12 +272,11 @@ fn says_that_the_output_failed(rt: HostRuntime) -> Result<(), Fail> {
         &["--help"],
     ];
     for words in asked {
-        let mut errors = BoundedSink::new(rt.alloc(), 100)?;
         let words = words_of(rt.alloc(), words)?;
-        let status = run_stuck(rt.alloc(), &words, &mut errors);
-        assert_eq!(rt; status, 3);
+        let ran = run_over(rt.alloc(), &words, &Files::of_input(MODULE), Stuck, 100)?;
+        assert_eq!(rt; ran.status, 3);
         let said = b"pulleynavy: standard output: No space left on device\n".as_slice();
-        assert_eq!(rt; errors.written(), said);
+        assert_eq!(rt; ran.said.written(), said);
     }
     Ok(())
 }

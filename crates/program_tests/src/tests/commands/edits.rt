@@ -1,11 +1,9 @@
 // The commands `add` and `extract`.
-use super::system::{Files, Named};
-use super::{CODELESS, answers, words_of};
+use super::system::{Change, Files, Named};
+use super::{CODELESS, answers, changes, run_over, words_of};
 use std::alloc::Global;
 use std::io::{self, ErrorKind, Write};
 use std::test::Fail;
-use wasm_commands::run;
-use wasm_io::{BoundedSink, WriteSink};
 
 // A module with two custom sections, a type section between them.
 const STREAM: &[u8] = b"\0asm\x01\0\0\0\0\x02\x01a\x01\x01\0\0\x03\x01bB";
@@ -277,7 +275,7 @@ fn sets_producers(rt: HostRuntime) -> Result<(), Fail> {
     Ok(())
 }
 
-const FIRST_ROWS: [Row; 4] = [
+const FIRST_ROWS: [Row; 3] = [
     (
         &["producers", "--set", "language=Rust:1.90", "both"],
         0,
@@ -296,19 +294,6 @@ const FIRST_ROWS: [Row; 4] = [
         b"",
         b"pulleynavy: cut: 0x2c: malformed section id\n",
     ),
-    (
-        &[
-            "producers",
-            "--set",
-            "language=Rust:1.90",
-            "both",
-            "-o",
-            "out",
-        ],
-        0,
-        b"",
-        b"",
-    ),
 ];
 
 #[test]
@@ -317,8 +302,9 @@ fn sets_the_first_section_alone(rt: HostRuntime) -> Result<(), Fail> {
     for (words, status, written, said) in FIRST_ROWS {
         answers(&rt, rt.alloc(), words, &files, (status, written, said))?;
     }
-    assert_eq!(rt; files.replaced.get(), Some(FIRST_NEWER.len()));
-    Ok(())
+    let words = ["producers", "--set", "language=Rust:1.90", "both", "-oout"];
+    let trace = [Change::Created("out"), Change::Replaced(FIRST_NEWER.len())];
+    changes(&rt, rt.alloc(), &words, &files, (0, b"", b""), &trace)
 }
 
 #[test]
@@ -351,14 +337,7 @@ fn adds_and_extracts(rt: HostRuntime) -> Result<(), Fail> {
 fn output_of(alloc: Global, words: &[&str], files: &Files<'_>) -> Result<Vec<u8>, Fail> {
     let words = words_of(alloc, words)?;
     let mut written = Vec::new(alloc);
-    let mut errors = BoundedSink::new(alloc, 300)?;
-    drop(run(
-        alloc,
-        &words,
-        files,
-        WriteSink::new(&mut written),
-        &mut errors,
-    ));
+    drop(run_over(alloc, &words, files, &mut written, 300)?);
     Ok(written)
 }
 
@@ -390,12 +369,10 @@ fn an_output_that_fails_at_the_end(rt: HostRuntime) -> Result<(), Fail> {
         &["--version"],
     ] {
         let words = words_of(alloc, words)?;
-        let mut errors = BoundedSink::new(alloc, 300)?;
-        let output = WriteSink::new(Unflushed);
-        let (status, _output) = run(alloc, &words, &files, output, &mut errors);
-        assert_eq!(rt; status, 3);
+        let ran = run_over(alloc, &words, &files, Unflushed, 300)?;
+        assert_eq!(rt; ran.status, 3);
         let said = b"pulleynavy: standard output: No space left on device\n";
-        assert_eq!(rt; errors.written(), said.as_slice());
+        assert_eq!(rt; ran.said.written(), said.as_slice());
     }
     Ok(())
 }

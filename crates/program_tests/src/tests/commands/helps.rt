@@ -4,7 +4,6 @@ use super::{MODULE, run_over, runs, words_of};
 use std::alloc::Global;
 use std::process::Abort;
 use std::test::Fail;
-use wasm_io::BoundedSink;
 
 const VERSION: &[u8] = b"pulleynavy 0.16.0 (follows wasmparser 0.263.0)\n";
 
@@ -26,12 +25,11 @@ fn prints_its_version(rt: HostRuntime) -> Result<(), Fail> {
 fn begins(rt: &impl Abort, alloc: Global, words: &[&str], start: &[u8]) -> Result<(), Fail> {
     let words = words_of(alloc, words)?;
     let mut written = Vec::<u8>::new(alloc);
-    let mut errors = BoundedSink::new(alloc, 10)?;
     let files = Files::of_input(MODULE);
-    let status = run_over(alloc, &words, &files, &mut written, &mut errors);
-    assert_eq!(rt; status, 0);
+    let ran = run_over(alloc, &words, &files, &mut written, 10)?;
+    assert_eq!(rt; ran.status, 0);
     assert!(rt; written.as_slice().starts_with(start));
-    assert!(rt; errors.written().is_empty());
+    assert!(rt; ran.said.written().is_empty());
     Ok(())
 }
 

@@ -1,6 +1,7 @@
 // The command `strip`.
-use super::system::{Files, Named};
-use super::{CODELESS, answers, runs};
+use super::system::{Change, Files, Named};
+use super::{CODELESS, answers, changes, runs};
+use std::alloc::Global;
 use std::process::Abort;
 use std::test::Fail;
 
@@ -86,70 +87,41 @@ fn strips_files(rt: HostRuntime) -> Result<(), Fail> {
     answers(&rt, alloc, &["strip", "broken"], &files, (3, b"", said))
 }
 
-// A run with a file to write returns and says this, and replaces a file by one of this size, or discards one.
+// A run with a file to write returns and says this, and does this to files.
 fn writes(
     rt: &impl Abort,
-    alloc: std::alloc::Global,
+    alloc: Global,
     words: &[&str],
     wanted: (u8, &[u8]),
-    replaced: Option<usize>,
-    discarded: u32,
+    trace: &[Change],
 ) -> Result<(), Fail> {
     let files = Files::new(CUSTOM, &NAMED);
-    answers(rt, alloc, words, &files, (wanted.0, b"", wanted.1))?;
-    assert_eq!(rt; files.replaced.get(), replaced);
-    assert_eq!(rt; files.discarded.get(), discarded);
-    Ok(())
+    changes(rt, alloc, words, &files, (wanted.0, b"", wanted.1), trace)
 }
 
 #[test]
 fn replaces_a_file_once_it_is_complete(rt: HostRuntime) -> Result<(), Fail> {
     let alloc = rt.alloc();
-    writes(
-        &rt,
-        alloc,
-        &["strip", "a", "-o", "out"],
-        (0, b""),
-        Some(8),
-        0,
-    )?;
-    writes(&rt, alloc, &["strip", "-oout", "a"], (0, b""), Some(8), 0)?;
-    writes(&rt, alloc, &["strip", "-o=x", "a"], (0, b""), Some(8), 0)?;
-    writes(
-        &rt,
-        alloc,
-        &["strip", "--output=a", "a"],
-        (0, b""),
-        Some(8),
-        0,
-    )?;
-    writes(
-        &rt,
-        alloc,
-        &["strip", "bad", "-o", "out"],
-        (1, FAULT),
-        None,
-        1,
-    )?;
+    for (words, target) in [
+        (["strip", "a", "-oout"], "out"),
+        (["strip", "-oout", "a"], "out"),
+        (["strip", "-o=x", "a"], "=x"),
+        (["strip", "--output=a", "a"], "a"),
+    ] {
+        let trace = [Change::Created(target), Change::Replaced(8)];
+        writes(&rt, alloc, &words, (0, b""), &trace)?;
+    }
+    let words = ["strip", "a", "-o", "out"];
+    let trace = [Change::Created("out"), Change::Replaced(8)];
+    writes(&rt, alloc, &words, (0, b""), &trace)?;
+    let trace = [Change::Created("out"), Change::Discarded];
+    writes(&rt, alloc, &["strip", "bad", "-oout"], (1, FAULT), &trace)?;
     let said = b"pulleynavy: none: No such file or directory\n";
-    writes(
-        &rt,
-        alloc,
-        &["strip", "none", "-o", "out"],
-        (3, said),
-        None,
-        0,
-    )?;
+    writes(&rt, alloc, &["strip", "none", "-oout"], (3, said), &[])?;
     let said = b"pulleynavy: denied: Permission denied\n";
-    writes(
-        &rt,
-        alloc,
-        &["strip", "a", "-o", "denied"],
-        (3, said),
-        None,
-        0,
-    )?;
+    writes(&rt, alloc, &["strip", "a", "-odenied"], (3, said), &[])?;
     let said = b"pulleynavy: full: No space left on device\n";
     let words = ["strip", "a", "--keep-names", "-o", "full"];
-    writes(&rt, alloc, &words, (3, said), None, 1)
+    let trace = [Change::Created("full"), Change::Discarded];
+    writes(&rt, alloc, &words, (3, said), &trace)
 }

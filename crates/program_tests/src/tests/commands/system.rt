@@ -15,15 +15,39 @@ pub(super) struct Named<'a> {
     pub(super) is_regular: bool,
 }
 
+/// What was done to a file.
+#[derive(Clone, Copy, PartialEq)]
+pub(super) enum Change {
+    /// One was created to replace this one.
+    Created(&'static str),
+    /// One was replaced by this many bytes.
+    Replaced(usize),
+    /// What was written was discarded.
+    Discarded,
+}
+
+// The names of files that tests replace.
+const TARGETS: [&str; 5] = ["out", "=x", "a", "denied", "full"];
+
+// The name of a file that is replaced: of one that no test replaces, an empty text.
+fn target(name: &str) -> &'static str {
+    for known in TARGETS {
+        if known == name {
+            return known;
+        }
+    }
+    ""
+}
+
 /// Standard input, and files. Reading the file `broken` fails, and so does creating `denied`.
 #[derive(Drop)]
 pub(super) struct Files<'a> {
     input: &'a [u8],
     named: &'a [Named<'a>],
     input_failure: Cell<Option<Cause>>,
-    /// The size of the file that was replaced, and how often one was discarded.
-    pub(super) replaced: Cell<Option<usize>>,
-    pub(super) discarded: Cell<u32>,
+    // What was done to files, and how often something was.
+    trace: [Change; 4],
+    count: usize,
 }
 
 impl<'a> Files<'a> {
@@ -38,9 +62,27 @@ impl<'a> Files<'a> {
             input,
             named,
             input_failure: Cell::new(None),
-            replaced: Cell::new(None),
-            discarded: Cell::new(0),
+            trace: [Change::Discarded; 4],
+            count: 0,
         }
+    }
+
+    /// The same files, to which nothing was done yet.
+    pub(super) fn again(&self) -> Files<'a> {
+        Files::new(self.input, self.named)
+    }
+
+    /// What was done to files, in order.
+    pub(super) fn changes(&self) -> &[Change] {
+        self.trace.get(..self.count).unwrap_or(&[])
+    }
+
+    // Notes what was done. More than the trace holds is noted in place of the last.
+    fn note(&mut self, change: Change) {
+        if let Some(place) = self.trace.get_mut(self.count.min(3)) {
+            *place = change;
+        }
+        self.count = self.count.saturating_add(1);
     }
 }
 
@@ -101,9 +143,9 @@ impl<'a> System for Files<'a> {
 
     ghost shows = { λ files result. result ≡ false };
 
-    ghost creates = { λ files input name result. Unit {0} };
+    ghost creates = { λ files input name result later. Unit {0} };
 
-    ghost replaces = { λ files output is_complete result. result ≡ Ok tt };
+    ghost replaces = { λ files output is_complete result later. result ≡ Ok tt };
 
     fn open(&self, name: &str) -> Result<ReadSource<Reader<'a>>, Cause> {
         if name == "-" {
@@ -130,10 +172,11 @@ impl<'a> System for Files<'a> {
         false
     }
 
-    fn create(&self, alloc: Global, _input: &str, name: &str) -> Result<BoundedSink, Cause> {
+    fn create(&mut self, alloc: Global, _input: &str, name: &str) -> Result<BoundedSink, Cause> {
         if name == "denied" {
             return Err(cause(ErrorKind::PermissionDenied));
         }
+        self.note(Change::Created(target(name)));
         let room = if name == "full" { 9 } else { 100 };
         match BoundedSink::new(alloc, room) {
             Ok(output) => Ok(output),
@@ -141,12 +184,12 @@ impl<'a> System for Files<'a> {
         }
     }
 
-    fn replace(&self, output: BoundedSink, is_complete: bool) -> Result<(), Cause> {
-        if is_complete {
-            self.replaced.set(Some(output.written().len()));
+    fn replace(&mut self, output: BoundedSink, is_complete: bool) -> Result<(), Cause> {
+        self.note(if is_complete {
+            Change::Replaced(output.written().len())
         } else {
-            self.discarded.set(self.discarded.get().saturating_add(1));
-        }
+            Change::Discarded
+        });
         Ok(())
     }
 
