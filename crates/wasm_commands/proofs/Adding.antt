@@ -1,11 +1,13 @@
 -- Lists whose elements are related in turn.
-use Rattle.std.proofs.Common.{◌≡◌, ◌∙◌, ◌+◌, ◌<◌, ℕ, List, Err, [], ◌∷◌, ◌++◌, ap, sym, subst₂, map, take, length, get_or}
+use Rattle.std.proofs.Common.{◌≡◌, ◌∙◌, ◌+◌, ◌<◌, ℕ, true, false, List, Ok, Err, Vec, Global, Bor, refl, [], ◌∷◌, ◌++◌, ap, sym, subst₂, map, take, length, get_or}
 use Rattle.std.proofs.lemmas.List.{map-append, map_more, take-map}
 use Rattle.wasm_io.specs.declared.devices.sink.Sink.{Ghosts as SinkOf}
 use Rattle.wasm_io.specs.declared.devices.source.Source.{Ghosts as SourceOf}
-use Rattle.wasm_commands.specs.RewriteCommands.{CannotLoad, EachInTurn, IsLoaded, parts_of}
+use Rattle.wasm_commands.specs.RewriteCommands.{AreAdditions, CannotLoad, EachInTurn, IsLoaded, TakesWords, is_asked_again, is_input}
+use Rattle.wasm_commands.specs.RewriteCommands.{no_addition, no_data_text, parts_of}
+use Rattle.wasm_commands.specs.Messages.{input_twice_text}
 use Rattle.wasm_commands.specs.Rewrites.{Holds}
-use Rattle.wasm_commands.specs.Runs.{Run}
+use Rattle.wasm_commands.specs.Runs.{Run, Tells}
 use Rattle.wasm_commands.specs.declared.add.Addition.{Addition}
 use Rattle.wasm_commands.specs.declared.system.System.{Ghosts as SystemOf}
 
@@ -55,3 +57,19 @@ cannot_load calls sources sinks additions i x loaded status old new less is load
   loads = loads;
   cannot = cannot;
 }
+
+-- the operands of `add`, by what was parsed of them
+module _ {S : Type 0} (words : List (List ℕ)) (file : List ℕ) (status : ℕ) (old new : Run S) where
+  pub no_data : (word : Bor (List ℕ)) → AreAdditions {A = Global} words (Err word) → status ≡ 2
+      → Tells (no_data_text word.now) old new → TakesWords (no_addition words) words file (Err status) old new
+  no_data word a is told = rw a (record { answers = ap Err is; tells = told })
+
+  module _ (additions : Vec Addition Global) (a : AreAdditions words (Ok additions)) where
+    pub asked_again : is_asked_again (is_input file) (map parts_of additions.items) ≡ true → status ≡ 2
+        → Tells input_twice_text old new → TakesWords (no_addition words) words file (Err status) old new
+    asked_again again is told = rw (a.0, ← a.1, again) (record { answers = ap Err is; tells = told })
+
+    pub asked_once : (taken : Bor (List ℕ)) → taken.now ≡ file
+        → is_asked_again (is_input file) (map parts_of additions.items) ≡ false
+        → TakesWords (no_addition words) words file (Ok (additions, taken)) old old
+    asked_once taken is once = rw (a.0, ← a.1, once) ((additions, taken), refl, refl, is, refl)

@@ -1,12 +1,16 @@
 -- What the first word of the program says.
-use Rattle.std.proofs.Common.{◌≡◌, ℕ, ◌-◌, ◌≤◌, List, length, take, drop, get_or, map, Option, string_bytes, String}
-use Rattle.std.proofs.Common.{Global, subst, sym, false, codes, bytes_eq, Result}
+use Rattle.std.proofs.Common.{◌≡◌, ℕ, ◌-◌, ◌<◌, ◌≤◌, [], ◌∷◌, List, length, take, drop, get_or, map, Option, string_bytes, String}
+use Rattle.std.proofs.Common.{Global, subst, sym, false, codes, bytes_eq, Result, refl, arith}
 use Rattle.std.proofs.lemmas.Bool.{false_from_ne_true}
 use Rattle.std.proofs.lemmas.Slice.Eq.{bytes_eq-Decides}
 use Rattle.wasm_commands.proofs.Parsing.{front_of}
 use Rattle.wasm_commands.specs.Commands.{PrintsHelp, PrintsTopic, RunsOther, RunsVerb, RunsWords}
 use Rattle.wasm_commands.specs.Options.{verb_named}
-use Rattle.wasm_commands.specs.Refusals.{unknown_text}
+use Rattle.wasm_commands.specs.Messages.{no_command_text, refusal_text}
+use Rattle.wasm_commands.specs.Parsing.{wrong_of}
+use Rattle.wasm_commands.specs.Refusals.{unknown_text, wrong_text}
+use Rattle.wasm_commands.specs.declared.arguments.Refusal.{Refusal}
+use Rattle.wasm_commands.specs.declared.arguments.Refusal.TheVariants.{UnknownOption, NoValue, UnwantedValue}
 use Rattle.wasm_commands.specs.Runs.{Run, Stops}
 use Rattle.wasm_commands.specs.declared.options.Verb.{Verb}
 use Rattle.wasm_commands.specs.declared.system.System.{Ghosts as SystemOf}
@@ -52,3 +56,16 @@ other_refused word more result old new a b c d e stops =
       bytes_differ word (codes "--version") d,
       bytes_differ word (codes "-V") e,
     ) stops
+
+-- the words for a wrong option
+pub wrong_is : (verb : Verb) (refusal : Refusal) → wrong_text verb (wrong_of refusal) ≡ refusal_text verb refusal
+wrong_is verb (UnknownOption word) = refl
+wrong_is verb (NoValue word) = refl
+wrong_is verb (UnwantedValue word) = refl
+
+-- no word at all
+pub none_run : {S I O : Type 0} (calls : SystemOf S I O) (sources : SourceOf I) (sinks : SinkOf O) (words : List (String Global))
+    (result : Result (Unit {0}) ℕ) (old new : Run S) → length words < 1 → Stops 2 no_command_text result old new
+    → RunsWords calls sources sinks (map string_bytes words) result old new
+none_run calls sources sinks [] result old new none stops = stops
+none_run calls sources sinks (word ∷ words) result old new none stops = absurd (omega (arith, none))

@@ -288,6 +288,21 @@ TakesIndex index (Err status) old new = Skips index None × Stops {A = Unit {0}}
 
 module _ {S I O : Type 0} (calls : SystemOf S I O) (sources : SourceOf I) (sinks : SinkOf O)
     (target : Option (List ℕ)) where
+  -- what is written of a section that was found, or said of one that was not
+  abbrev pub EndsExtract : (wanted name : List ℕ) → Result (Option Custom) Error → Result (Unit {0}) ℕ
+      → (old new : Run S) → Type 0
+  EndsExtract wanted name (Ok (Some section)) =
+      WritesTo calls sources sinks (place section.reader).rest name target
+  EndsExtract wanted name (Ok None) = Stops 1 (missing_text verb.Extract name wanted)
+  EndsExtract wanted name (Err e) = StopsAtFault name e
+
+  -- The data of the section were written, if the stream has it before its first fault.
+  pub record ExtractsFrom (wanted : List ℕ) (skips : ℕ) (name stream : List ℕ) (result : Result (Unit {0}) ℕ)
+      (old new : Run S) : Type 0 where
+    pub found : Result (Option Custom) Error
+    pub finds : FindsSection wanted skips stream found
+    pub ends : EndsExtract wanted name found result old new
+
   -- These bytes were written, unless memory ran out before.
   abbrev pub WritesSet : (bytes name : List ℕ) → Result (Unit {0}) ℕ → (old new : Run S) → Type 0
   WritesSet bytes name =
@@ -327,6 +342,22 @@ module _ {S I O : Type 0} (calls : SystemOf S I O) (sources : SourceOf I) (sinks
       (¬ Fits new_section × Stops 2 (too_large_text verb.Producers new_section.name.now) result old new)
       ⊎ SetsIn new_section name stream result old new
 
+  -- The section was set to new data.
+  pub record SetsSection (name stream : List ℕ) (result : Result (Unit {0}) ℕ) (old new : Run S) : Type 0 where
+    pub new_section : NewSection
+    pub named : new_section.name.now ≡ codes "producers"
+    pub sets : SetsNew new_section name stream result old new
+
+  -- The first section with producers was looked for and changed, or has a fault.
+  pub record SetsFound (name stream : List ℕ) (result : Result (Unit {0}) ℕ) (old new : Run S) : Type 0 where
+    pub change : Result (Vec ℕ Global) Error
+    pub finds : FindsChange stream change
+    pub ends : Then (IsSound name change) (λ changed. SetsSection name stream) result old new
+
+  -- The same, unless memory ran out before.
+  abbrev pub SetsHeld : (name stream : List ℕ) → Result (Unit {0}) ℕ → (old new : Run S) → Type 0
+  SetsHeld name stream = Then Allots (λ (allotted : Unit {0}). SetsFound name stream)
+
 module _ {S I O : Type 0} (calls : SystemOf S I O) (sources : SourceOf I) (sinks : SinkOf O) (reads : List Read) where
   -- The sections of a file stay that are to be kept, and other custom sections are removed.
   pub record StripsFile (name : List ℕ) (result : Result (Unit {0}) ℕ) (old new : Run S) : Type 0 where
@@ -340,47 +371,20 @@ module _ {S I O : Type 0} (calls : SystemOf S I O) (sources : SourceOf I) (sinks
   Strips = Then Allots (λ (allotted : Unit {0}).
       Then (TakesFile verb.Strip (operands_in reads)) (λ file. StripsFile file.now))
 
-  -- what is written of a section that was found, or said of one that was not
-  abbrev pub EndsExtract : (wanted name : List ℕ) → Result (Option Custom) Error → Result (Unit {0}) ℕ
-      → (old new : Run S) → Type 0
-  EndsExtract wanted name (Ok (Some section)) =
-      WritesTo calls sources sinks (place section.reader).rest name (target_in reads)
-  EndsExtract wanted name (Ok None) = Stops 1 (missing_text verb.Extract name wanted)
-  EndsExtract wanted name (Err e) = StopsAtFault name e
-
-  -- The data of the section were written, if the stream has it before its first fault.
-  pub record ExtractsFrom (wanted : List ℕ) (skips : ℕ) (name stream : List ℕ) (result : Result (Unit {0}) ℕ)
-      (old new : Run S) : Type 0 where
-    pub found : Result (Option Custom) Error
-    pub finds : FindsSection wanted skips stream found
-    pub ends : EndsExtract wanted name found result old new
-
   -- | the command `extract`: the file or standard input, the section that is found by its name and `--index`, and where
   --   its data are written
   abbrev pub Extracts : Result (Unit {0}) ℕ → (old new : Run S) → Type 0
   Extracts = Then Allots (λ (allotted : Unit {0}). Then (TakesSection (operands_in reads)) (λ taken.
       Then (TakesIndex (last_value option.Index None reads)) (λ skips. Then (Holds calls sources sinks taken.1.now)
-      (λ bytes. ExtractsFrom taken.0.now skips taken.1.now bytes.items))))
-
-  -- The section was set to new data.
-  pub record SetsSection (name stream : List ℕ) (result : Result (Unit {0}) ℕ) (old new : Run S) : Type 0 where
-    pub new_section : NewSection
-    pub named : new_section.name.now ≡ codes "producers"
-    pub sets : SetsNew calls sources sinks (target_in reads) new_section name stream result old new
-
-  -- The first section with producers was looked for and changed, or has a fault.
-  pub record SetsHeld (name stream : List ℕ) (result : Result (Unit {0}) ℕ) (old new : Run S) : Type 0 where
-    pub change : Result (Vec ℕ Global) Error
-    pub finds : FindsChange stream change
-    pub ends : Then (IsSound name change) (λ changed. SetsSection name stream) result old new
+      (λ bytes. ExtractsFrom calls sources sinks (target_in reads) taken.0.now skips taken.1.now bytes.items))))
 
   -- | the command `producers --set`: the file or standard input, the section that is set, and where the stream is
   --   written. The new data of the section are not stated
   abbrev pub SetsProducers : Result (Unit {0}) ℕ → (old new : Run S) → Type 0
   SetsProducers = Then Allots (λ (allotted : Unit {0}). Then (TakesSettings (values_in option.Set reads))
       (λ (settings : Unit {0}). Then Allots (λ (again : Unit {0}). Then (TakesFile verb.Producers (operands_in reads))
-      (λ file. Then (Holds calls sources sinks file.now) (λ bytes. Then Allots (λ (made : Unit {0}).
-      SetsHeld file.now bytes.items))))))
+      (λ file. Then (Holds calls sources sinks file.now)
+      (λ bytes. SetsHeld calls sources sinks (target_in reads) file.now bytes.items)))))
 
 -- ---- `add`
 
@@ -460,12 +464,16 @@ module _ {S I O : Type 0} (calls : SystemOf S I O) (sources : SourceOf I) (sinks
     pub held : original.held ≡ None
     pub adds : AddsBy IsAdded loaded original result old new
 
+  abbrev pub ReplacesInFile : (loaded : List (List ℕ × List ℕ)) (name : List ℕ) → Result (Unit {0}) ℕ
+      → (old new : Run S) → Type 0
+  ReplacesInFile loaded name =
+      Then (Searches calls sources sinks name) (λ (found : Unit {0}). AddsFound loaded name)
+
   -- with `--replace`, by what is held of the stream
   abbrev pub AddsReplaced : (loaded : List (List ℕ × List ℕ)) (original : Original) → Option (Vec ℕ Global)
       → Result (Unit {0}) ℕ → (old new : Run S) → Type 0
   AddsReplaced loaded original (Some held) = AddsHeld held.items loaded original
-  AddsReplaced loaded original None =
-      Then (Searches calls sources sinks original.name.now) (λ (found : Unit {0}). AddsFound loaded original.name.now)
+  AddsReplaced loaded original None = ReplacesInFile loaded original.name.now
 
   abbrev pub AddsLoaded : (replaces : Bool) → (loaded : List (List ℕ × List ℕ)) (original : Original)
       → Result (Unit {0}) ℕ → (old new : Run S) → Type 0

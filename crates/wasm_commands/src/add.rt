@@ -1,8 +1,9 @@
 // The command `add`: appends custom sections, or replaces them.
-ghost use Rattle.std.specs.Prelude.{◌≡◌, false, IfOk, map};
+ghost use Rattle.std.specs.Prelude.{◌≡◌, ◌++◌, ◌∷◌, [], false, IfOk, map};
 ghost use Rattle.wasm_commands.specs.ArgumentLists.{operands_in};
 ghost use Rattle.wasm_commands.specs.Parsing.{reads_of, text_if_any, texts};
-ghost use Rattle.wasm_commands.specs.RewriteCommands.{Adds, AddsBy, AddsFound, AddsHeld, AddsTo, AreAdditions, AreOperands, EachInTurn, IsAdded, IsAddedBy, IsAddition, LoadsAll, Prepares, Searches, TakesAdditions, WritesAdded, is_asked_again, is_input, loaded_parts, parts_of};
+ghost use Rattle.wasm_commands.specs.Runs.{Allots};
+ghost use Rattle.wasm_commands.specs.RewriteCommands.{Adds, AddsBy, AddsFound, AddsHeld, AddsReplaced, AddsTo, AreAdditions, AreOperands, EachInTurn, IsAdded, IsAddedBy, IsAddition, LoadsAll, Prepares, ReplacesInFile, Searches, TakesAdditions, WritesAdded, is_asked_again, is_input, loaded_parts, parts_of};
 
 use crate::arguments::Arguments;
 use crate::extract::{Wanted, find};
@@ -81,6 +82,14 @@ fn reads_input_twice(additions: &[Addition<'_>], file: &str) -> bool
         rest = more;
     }
     false
+}
+
+// Adds a section after the others.
+fn push_loaded<'a>(all: &mut Vec<Loaded<'a>>, loaded: Loaded<'a>) -> Result<(), AllocError>
+    ensures { IfOk result (λ done. all.new.items ≡ all.old.items ++ loaded.entry ∷ []) }
+{
+    all.push(loaded)?;
+    Ok(())
 }
 
 // The operands of the command: what is added, and the file to which it is added.
@@ -250,9 +259,7 @@ impl<S: System, W: Write, E: Sink> Runner<S, W, E> {
         for addition in additions {
             let bytes = self.hold(alloc, addition.file)?;
             let name = addition.name;
-            if all.push(Loaded { name, bytes }).is_err() {
-                return Err(self.out_of_memory());
-            }
+            self.allocated(push_loaded(&mut all, Loaded { name, bytes }))?;
         }
         Ok(all)
     }
@@ -334,12 +341,12 @@ impl<S: System, W: Write, E: Sink> Runner<S, W, E> {
         ensures { AddsFound S.System S.Input.Source S.Output.Sink (text_if_any target.entry)
             (map loaded_parts loaded.now) name.now result self.old self.new }
     {
-        let edits = self.allocated(edits_by(alloc, loaded, found))?;
         let original = Original {
             name,
             held: None,
             is_checked: true,
         };
+        let edits = self.allocated(edits_by(alloc, loaded, found))?;
         self.write_added(alloc, &edits, &original, target)
     }
 
@@ -348,7 +355,9 @@ impl<S: System, W: Write, E: Sink> Runner<S, W, E> {
         &mut self,
         alloc: Global,
         loaded: &[Loaded<'a>],
-    ) -> Result<(Vec<Only<'a>>, Vec<Cell<bool>>), u8> {
+    ) -> Result<(Vec<Only<'a>>, Vec<Cell<bool>>), u8>
+        ensures { Allots result self.old self.new }
+    {
         let only = self.allocated(choices_of(alloc, loaded))?;
         let found = self.allocated(vec![in alloc; Cell::new(false); loaded.len()])?;
         Ok((only, found))
@@ -381,6 +390,47 @@ fn search<'a, S: System, W: Write, E: Sink>(
     }
 }
 
+// Searches a file for these sections, and writes it with them. Those that it has are replaced. Returns how that ended, and
+// the run.
+fn replace_in_file<'a, S: System, W: Write, E: Sink>(
+    alloc: Global,
+    loaded: &'a [Loaded<'a>],
+    name: &str,
+    target: Option<&str>,
+    runner: Runner<S, W, E>,
+) -> (Result<(), u8>, Runner<S, W, E>)
+    ensures { ReplacesInFile S.System S.Input.Source S.Output.Sink (text_if_any target.entry)
+        (map loaded_parts loaded.now) name.now result.0 runner result.1 }
+{
+    let (searched, mut runner) = search(alloc, loaded, name, runner);
+    let found = match searched {
+        Ok(found) => found,
+        Err(status) => return (Err(status), runner),
+    };
+    let ended = runner.add_found(alloc, loaded, &found, name, target);
+    (ended, runner)
+}
+
+// Writes a stream with these sections, in place of those with their names. Returns how that ended, and the run.
+fn replace_in<'a, S: System, W: Write, E: Sink>(
+    alloc: Global,
+    loaded: &'a [Loaded<'a>],
+    original: &Original<'_>,
+    target: Option<&str>,
+    mut runner: Runner<S, W, E>,
+) -> (Result<(), u8>, Runner<S, W, E>)
+    ensures { AddsReplaced S.System S.Input.Source S.Output.Sink (text_if_any target.entry)
+        (map loaded_parts loaded.now) original.now original.now.held result.0 runner result.1 }
+{
+    match &original.held {
+        Some(bytes) => {
+            let ended = runner.add_to_held(alloc, loaded, bytes, original, target);
+            (ended, runner)
+        }
+        None => replace_in_file(alloc, loaded, original.name, target, runner),
+    }
+}
+
 /// Runs `add`: writes a file or standard input with more custom sections. Returns how it ended, and the run.
 pub(crate) fn add<S: System, W: Write, E: Sink>(
     alloc: Global,
@@ -401,19 +451,10 @@ pub(crate) fn add<S: System, W: Write, E: Sink>(
         Err(status) => return (Err(status), runner),
     };
     let target = target_of(arguments);
-    if !arguments.has(Flag::Replace) {
+    if arguments.has(Flag::Replace) {
+        replace_in(alloc, &loaded, &original, target, runner)
+    } else {
         let ended = runner.add_at_end(alloc, &loaded, &original, target);
-        return (ended, runner);
-    }
-    if let Some(bytes) = &original.held {
-        let ended = runner.add_to_held(alloc, &loaded, bytes, &original, target);
-        return (ended, runner);
-    }
-    match search(alloc, &loaded, original.name, runner) {
-        (Ok(found), mut runner) => {
-            let ended = runner.add_found(alloc, &loaded, &found, original.name, target);
-            (ended, runner)
-        }
-        (Err(status), runner) => (Err(status), runner),
+        (ended, runner)
     }
 }

@@ -3,7 +3,7 @@ ghost use Rattle.std.specs.Prelude.{◌≡◌, None, option_map};
 ghost use Rattle.wasm_commands.specs.ArgumentLists.{last_value};
 ghost use Rattle.wasm_commands.specs.Finding.{FindsSection, IsNamedIn};
 ghost use Rattle.wasm_commands.specs.Parsing.{reads_of, text_if_any, texts};
-ghost use Rattle.wasm_commands.specs.RewriteCommands.{Extracts, Skips, TakesIndex, TakesSection, value_text};
+ghost use Rattle.wasm_commands.specs.RewriteCommands.{Extracts, ExtractsFrom, Skips, TakesIndex, TakesSection, value_text};
 ghost use Rattle.wasm_commands.specs.declared.options.Flag.TheVariants as option;
 
 use crate::arguments::Arguments;
@@ -112,6 +112,25 @@ impl<S: System, W: Write, E: Sink> Runner<S, W, E> {
             }
         }
     }
+
+    // Writes the section of a stream, if it has it before its first fault.
+    fn extract_from(
+        &mut self,
+        alloc: Global,
+        bytes: &[u8],
+        wanted: Wanted<'_>,
+        name: &str,
+        target: Option<&str>,
+    ) -> Result<(), u8>
+        ensures { ExtractsFrom S.System S.Input.Source S.Output.Sink (text_if_any target.entry)
+            wanted.entry.name.now wanted.entry.before name.now bytes.now result self.old self.new }
+    {
+        match find(bytes, wanted) {
+            Ok(Some(section)) => self.write_to(alloc, &[section.data()], name, target),
+            Ok(None) => Err(self.miss(Verb::Extract, name, wanted.name)),
+            Err(error) => Err(self.report_fault(name, &error)),
+        }
+    }
 }
 
 /// Runs `extract`: writes the data of a custom section of a file or of standard input.
@@ -135,15 +154,9 @@ pub(crate) fn extract<S: System, W: Write, E: Sink>(
     let (wanted, name) = runner.wanted_of(&operands)?;
     let before = runner.skips_of(arguments)?;
     let bytes = runner.hold(alloc, name)?;
-    let found = find(
-        &bytes,
-        Wanted {
-            name: wanted,
-            before,
-        },
-    );
-    match runner.sound(name, found)? {
-        Some(section) => runner.write_to(alloc, &[section.data()], name, target_of(arguments)),
-        None => Err(runner.miss(Verb::Extract, name, wanted)),
-    }
+    let wanted = Wanted {
+        name: wanted,
+        before,
+    };
+    runner.extract_from(alloc, &bytes, wanted, name, target_of(arguments))
 }

@@ -1,11 +1,11 @@
 // The command `producers`: shows or changes what a module was produced with.
 ghost use Rattle.std.specs.Prelude.{◌≡◌, ◌<◌, ◌^◌, ◌++◌, IfOk, OnOk, is_some};
-ghost use Rattle.wasm_commands.specs.ArgumentLists.{values_in};
-ghost use Rattle.wasm_commands.specs.Commands.{Produces};
+ghost use Rattle.wasm_commands.specs.ArgumentLists.{has_option, values_in};
+ghost use Rattle.wasm_commands.specs.Commands.{Produces, ProducersBy, ShowsProducers};
 ghost use Rattle.wasm_commands.specs.Parsing.{reads_of, text_if_any, texts};
-ghost use Rattle.wasm_commands.specs.RewriteCommands.{FindsChange, SetsNew, SetsProducers, TakesSettings, is_setting, no_setting, wrong_setting};
+ghost use Rattle.wasm_commands.specs.RewriteCommands.{FindsChange, SetsHeld, SetsIn, SetsProducers, SetsSection, TakesSettings, WritesSet, is_setting, no_setting, wrong_setting};
 ghost use Rattle.wasm_commands.specs.declared.options.Flag.TheVariants as option;
-ghost use Rattle.wasm_edits.specs.Encoded.{encoded};
+ghost use Rattle.wasm_edits.specs.Encoded.{Fits, encoded, encoded_section};
 
 use crate::arguments::Arguments;
 use crate::around::{Around, find_first};
@@ -241,8 +241,30 @@ fn settings_of<'a, S: System, W: Write, E: Sink>(
     }
 }
 
-// Writes a stream with this section in place of its first one with the name, or after its own sections, unless the
-// section is too large.
+// Writes a stream with this section between these bytes.
+fn write_between<S: System, W: Write, E: Sink>(
+    alloc: Global,
+    new: NewSection<'_>,
+    around: Around<'_>,
+    name: &str,
+    target: Option<&str>,
+    runner: &mut Runner<S, W, E>,
+) -> Result<(), u8>
+    requires { Fits new }
+    ensures { WritesSet S.System S.Input.Source S.Output.Sink (text_if_any target.entry)
+        (around.entry.before.now ++ (encoded_section new.entry ++ around.entry.after.now)) name.now
+        result runner.old runner.new }
+{
+    let section = runner.encoded(alloc, new)?;
+    runner.write_to(
+        alloc,
+        &[around.before, section.as_slice(), around.after],
+        name,
+        target,
+    )
+}
+
+// Writes a stream with this section in place of its first one with the name, or after its own sections.
 fn write_set<S: System, W: Write, E: Sink>(
     alloc: Global,
     new: NewSection<'_>,
@@ -251,21 +273,59 @@ fn write_set<S: System, W: Write, E: Sink>(
     target: Option<&str>,
     runner: &mut Runner<S, W, E>,
 ) -> Result<(), u8>
-    ensures { SetsNew S.System S.Input.Source S.Output.Sink (text_if_any target.entry)
+    requires { Fits new }
+    ensures { SetsIn S.System S.Input.Source S.Output.Sink (text_if_any target.entry)
         new.entry name.now bytes.now result runner.old runner.new }
 {
-    if !new.fits() {
-        return Err(runner.complain(Complaint::TooLarge(Verb::Producers, NAME)));
-    }
     // A slice is shorter than 2^64 bytes, which the proof wants to know.
     let _length = bytes.len();
-    let found = runner.sound(name, find_first(bytes, new.name))?;
-    let Around { before, after } = found.unwrap_or(Around {
-        before: bytes,
-        after: b"",
-    });
-    let section = runner.encoded(alloc, new)?;
-    runner.write_to(alloc, &[before, &section, after], name, target)
+    match find_first(bytes, new.name) {
+        Ok(Some(around)) => write_between(alloc, new, around, name, target, runner),
+        Ok(None) => {
+            let around = Around {
+                before: bytes,
+                after: b"",
+            };
+            write_between(alloc, new, around, name, target, runner)
+        }
+        Err(error) => Err(runner.report_fault(name, &error)),
+    }
+}
+
+// Writes a stream with new data of the section, unless they are too large.
+fn write_new<S: System, W: Write, E: Sink>(
+    alloc: Global,
+    data: &[u8],
+    bytes: &[u8],
+    name: &str,
+    target: Option<&str>,
+    runner: &mut Runner<S, W, E>,
+) -> Result<(), u8>
+    ensures { SetsSection S.System S.Input.Source S.Output.Sink (text_if_any target.entry)
+        name.now bytes.now result runner.old runner.new }
+{
+    let new = NewSection { name: NAME, data };
+    if new.fits() {
+        return write_set(alloc, new, bytes, name, target, runner);
+    }
+    Err(runner.complain(Complaint::TooLarge(Verb::Producers, NAME)))
+}
+
+// Writes a stream with these settings.
+fn change<S: System, W: Write, E: Sink>(
+    alloc: Global,
+    settings: &[Setting<'_>],
+    bytes: &[u8],
+    name: &str,
+    target: Option<&str>,
+    runner: &mut Runner<S, W, E>,
+) -> Result<(), u8>
+    ensures { SetsHeld S.System S.Input.Source S.Output.Sink (text_if_any target.entry)
+        name.now bytes.now result runner.old runner.new }
+{
+    let changed = runner.allocated(new_data(alloc, bytes, settings))?;
+    let data = runner.sound(name, changed)?;
+    write_new(alloc, &data, bytes, name, target, runner)
 }
 
 // Runs `producers` with these values of `--set`.
@@ -289,13 +349,45 @@ fn set_all<S: System, W: Write, E: Sink>(
     let operands = runner.allocated(arguments.operands(alloc))?;
     let name = runner.file_of(Verb::Producers, &operands)?;
     let bytes = runner.hold(alloc, name)?;
-    let changed = runner.allocated(new_data(alloc, &bytes, &settings))?;
-    let data = runner.sound(name, changed)?;
-    let new = NewSection {
-        name: NAME,
-        data: &data,
-    };
-    write_set(alloc, new, &bytes, name, target_of(arguments), runner)
+    let target = target_of(arguments);
+    change(alloc, &settings, &bytes, name, target, runner)
+}
+
+// Shows the section, unless `--output` is given. Returns how that ended, and the run.
+fn show_section<S: System, W: Write, E: Sink>(
+    alloc: Global,
+    arguments: &Arguments<'_>,
+    mut runner: Runner<S, W, E>,
+) -> (Result<(), u8>, Runner<S, W, E>)
+    ensures { ShowsProducers S.System S.Input.Source S.Output.Sink
+        (has_option option.Output (reads_of arguments.now)) (reads_of arguments.now)
+        result.0 runner result.1 }
+{
+    if arguments.has(Flag::Output) {
+        let complaint = Complaint::Few(Verb::Producers, "--set with --output");
+        return (Err(runner.complain(complaint)), runner);
+    }
+    show(alloc, Verb::Producers, arguments, runner)
+}
+
+// Sets these values of `--set`, or shows the section if there are none. Returns how that ended, and the run.
+fn set_or_show<S: System, W: Write, E: Sink>(
+    alloc: Global,
+    words: &[&str],
+    arguments: &Arguments<'_>,
+    mut runner: Runner<S, W, E>,
+) -> (Result<(), u8>, Runner<S, W, E>)
+    requires { texts words.now ≡ values_in option.Set (reads_of arguments.now) }
+    ensures { ProducersBy S.System S.Input.Source S.Output.Sink (texts words.now)
+        (reads_of arguments.now) result.0 runner result.1 }
+{
+    match words {
+        [] => show_section(alloc, arguments, runner),
+        _ => {
+            let ended = set_all(alloc, words, arguments, &mut runner);
+            (ended, runner)
+        }
+    }
 }
 
 /// Runs `producers`: sets the versions of `--set`, or shows the section if there are none. Returns how it ended, and the
@@ -308,17 +400,8 @@ pub(crate) fn producers<S: System, W: Write, E: Sink>(
     ensures { Produces S.System S.Input.Source S.Output.Sink (reads_of arguments.now)
         result.0 runner result.1 }
 {
-    let words = match runner.allocated(arguments.values(alloc, Flag::Set)) {
-        Ok(words) => words,
-        Err(status) => return (Err(status), runner),
-    };
-    if !words.is_empty() {
-        let ended = set_all(alloc, &words, arguments, &mut runner);
-        return (ended, runner);
+    match runner.allocated(arguments.values(alloc, Flag::Set)) {
+        Ok(words) => set_or_show(alloc, &words, arguments, runner),
+        Err(status) => (Err(status), runner),
     }
-    if arguments.has(Flag::Output) {
-        let complaint = Complaint::Few(Verb::Producers, "--set with --output");
-        return (Err(runner.complain(complaint)), runner);
-    }
-    show(alloc, Verb::Producers, arguments, runner)
 }

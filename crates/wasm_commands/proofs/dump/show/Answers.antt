@@ -1,10 +1,48 @@
-use Rattle.std.proofs.Common.{◌∙◌, ap, sym}
-use Rattle.wasm_commands.proofs.Showing.{shows_asked}
+use Rattle.std.proofs.Common.{◌≡◌, ◌∙◌, Err, ap, inl, refl, sym}
+use Rattle.wasm_commands.proofs.Steps.{granted}
 use Rattle.wasm_commands.specs.Formats.{or_text}
+use Rattle.wasm_commands.specs.Parsing.{reads_of}
+use Rattle.wasm_commands.specs.Shows.{IsRequest}
 use Rattle.wasm_commands.proofs.dump.show.Goals as goal
 
-pub returns-in-Ok-clause-shows : goal.returns-in-Ok-clause-shows
-returns-in-Ok-clause-shows g c =
+pub returns-in-Err : goal.returns-in-Err
+returns-in-Err g c =
+    let asked = sym (ap or_text c.in-Err.is) ∙ c.format_of.ensures in (
+      c.is_terminal.result,
+      c.is_terminal.ensures,
+      rw (← asked) (record { answers = ap Err c.complain.ensures.status; tells = c.complain.ensures.tells }),
+    )
+
+pub returns : goal.returns
+returns g c =
     let asked = sym (ap or_text c.in-Ok.is) ∙ c.format_of.ensures in
-    shows_asked _ _ c.args.verb _ c.is_terminal.result c.in-Ok.format _ _ c.show_as.result.0 c.is_terminal.ensures asked
-    c.show_as.ensures.shows
+    let taken = granted (IsRequest c.args.verb (reads_of c.args.arguments.now)) c.request_of.result c.in-Ok-allocated.request _ _
+    c.in-Ok-allocated.ensures c.request_of.ensures in (
+      c.is_terminal.result,
+      c.is_terminal.ensures,
+      rw (← asked) (inl (
+        tt,
+        c.allocated.new.self,
+        taken.0,
+        record {
+          does = record {
+            plan = record {
+              verb = c.args.verb;
+              words = c.as_slice.result;
+              shown = record { only = c.as_slice-2.result; has_bytes = c.has.result; found = c.as_slice-3.result };
+              format = c.in-Ok.format;
+            };
+            asked = record {
+              of_verb = refl;
+              words = rw c.as_slice.ensures.value taken.1.words;
+              chooses = rw c.as_slice-2.ensures.value taken.1.chooses;
+              bytes = c.has.ensures;
+              formatted = refl;
+            };
+            shows = rw (c.as_slice-4.ensures.value, taken.1.names) at c.show_as.ensures.does;
+          };
+          forwards = c.show_as.ensures.forwards;
+          system = c.show_as.ensures.system;
+        },
+      )),
+    )
