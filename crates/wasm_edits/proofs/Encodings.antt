@@ -40,10 +40,6 @@ pub leb_enough : (m n : ℕ) → n < 128 ^ suc m → leb (suc m) n ≡ leb m n
 leb_enough zero n h = grind arith
 leb_enough (suc m) n h = grind (arith, leb_enough m (n / 128), pow_more, rest_below)
 
--- the first septet and the rest
-pub leb_more : (n : ℕ) → 128 ≤ n → n < 2 ^ 32 → encoded n ≡ (n % 128 + 128) ∷ encoded (n / 128)
-leb_more n least most = grind (arith, leb_enough 3 (n / 128))
-
 pub leb_least : (m n : ℕ) → 1 ≤ length (leb m n)
 leb_least zero n = omega arith
 leb_least (suc m) n = grind arith

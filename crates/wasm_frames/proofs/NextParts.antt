@@ -76,10 +76,6 @@ fault_given p eof bytes after e r m l b f = grind (arith, gives_refused)
 pub place_at : (p : ParserState) (w : Window) (bytes : List ℕ) → w ≡ window_over p.features p.offset bytes → place w ≡ place_of p bytes
 place_at p w bytes e = grind arith
 
-pub next_header : (p : ParserState) (bytes : List ℕ) (here after : Place) (r : Result Report Error) → p.expects_header ≡ true
-    → here ≡ place_of p bytes → ReadsHeader here r after → ReadsNext p (place_of p bytes) r after
-next_header p bytes here after r h at m = matches p (place_of p bytes) after r (header_grammar p.offset) (rw h refl) (rw at at m)
-
 section_here : (p : ParserState) → is_at_section p ≡ true → grammar_of p ≡ section_grammar (known_context p) p.offset
 section_here p c = let (h, closed) = and_parts _ _ c in rw (not_false p.expects_header h, closed) refl
 

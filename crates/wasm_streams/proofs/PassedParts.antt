@@ -204,11 +204,6 @@ module _ (source rest taken written rest' written' : Option (List ℕ)) (stays :
         (omega (arith, n, s, k, z, some), (t.at_end z).0, (t.at_end z).1);
   }
 
-pub passed_all : (source rest taken written : Option (List ℕ)) (stays : Bool) (missing left : ℕ) (chunk waiting ahead page : List ℕ)
-    → Passed source rest taken written stays missing chunk waiting left ahead page → left ≡ 0
-    → PassesMissing source rest taken written stays missing chunk waiting true ahead page
-passed_all source rest taken written stays missing left chunk waiting ahead page p z = grind arith
-
 -- after these bytes were put, more were, up to an error
 module _ (taken mid written : Option (List ℕ)) (stays : Bool) (missing left : ℕ) (waiting page xs ys rest new : List ℕ)
     (p : PutsBytes taken mid waiting (if_stays stays xs) page) (size : length xs + left ≡ missing) where
