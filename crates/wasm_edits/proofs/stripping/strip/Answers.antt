@@ -7,7 +7,7 @@ use Rattle.wasm_edits.proofs.stripping.strip.Goals as goal
 use Rattle.wasm_edits.specs.Stripped.{Strips}
 
 pub returns : goal.returns
-returns g c =
+returns c =
     subst (λ (keeps : List ℕ → Bool). Strips keeps c.args.bytes.now c.edit.result) c.names.ensures
     (strips_by_edit c.names.result c.args.bytes.now c.edit.result (stream_of c.args.bytes.now c.type_inv.bytes (omega arith))
     c.edit.ensures)
