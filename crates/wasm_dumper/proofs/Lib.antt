@@ -5,6 +5,6 @@ pub mod Counted
 pub mod DroppedParts
 pub mod DumpTurns
 pub mod Dumping
-pub mod Lines
+pub mod EventLines
 pub mod Numbering
 pub mod Outlines

@@ -27,7 +27,7 @@ use Rattle.wasm_parser.specs.declared.payload.Payload.TheVariants.{TypeSection, 
 use Rattle.wasm_parser.specs.declared.payload.Payload.TheVariants.{TagSection, GlobalSection, ElementSection, DataSection}
 use Rattle.wasm_output.specs.Numbers.{AreShown}
 use Rattle.wasm_output.specs.Tree.{with_line, AddsNumber, AddsAll, AddsBytes, with_bytes}
-use Rattle.wasm_dumper.proofs.Lines.{line_is_first}
+use Rattle.wasm_dumper.proofs.EventLines.{line_is_first}
 
 -- ---- numbers that are shown one after the other
 

@@ -1,4 +1,4 @@
-use Rattle.wasm_dumper.proofs.Lines.{short_if_any}
+use Rattle.wasm_dumper.proofs.EventLines.{short_if_any}
 use Rattle.wasm_dumper.proofs.events.short_name.Goals as goal
 
 pub returns-clause-short : goal.returns-clause-short

@@ -1,5 +1,5 @@
 use Rattle.wasm_dumper.proofs.Common.{◌≡◌, sym, ap, subst, ◌∙◌, report_of, Base, first_in_objects, base_of, AddsFirst, numbered_line}
-use Rattle.wasm_dumper.proofs.Lines.{text_fed}
+use Rattle.wasm_dumper.proofs.EventLines.{text_fed}
 use Rattle.wasm_dumper.proofs.events.show_other_event.Goals as goal
 
 pub returns-in-Lines-clause-adds : goal.returns-in-Lines-clause-adds
