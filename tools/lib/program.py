@@ -47,7 +47,7 @@ COMMANDS = {
             ("--hex", None, "write offsets in hexadecimal", "Offsets are hexadecimal, as 0x1f. All other numbers stay decimal."),
             ("--color", "[=WHEN]", "write colors for a terminal", "The text has colors for a terminal: 'always', which is also meant without WHEN, 'never', or 'auto' if the output is a terminal."),
             ("--json", None, "write a JSON object per line", "Each line is a JSON object, for programs. Its last member, file, is the name of the file. Excludes --bytes, --hex and --color."),
-            ("--section", "ID|NAME", "show only this section", "Only sections with this id, with this name in the standard, or custom sections with this name are shown. The option may be repeated. If a file has none of them, a warning says so."),
+            ("--section", "ID|NAME", "show only this section", "Only sections with this id, with this name in the standard (custom, type, import, function, table, memory, tag, global, export, start, element, datacount, code, data), or custom sections with this name are shown. The option may be repeated. If a file has none of them, a warning says so."),
         ),
         "good": "All files were read to their ends, and each --section chose something of each. A malformed item does not change the status.",
         "bad": "A file has a fault at which reading stops, or lacks a section that was asked for.",

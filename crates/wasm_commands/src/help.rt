@@ -96,9 +96,11 @@ Options:
                   file, is the name of the file. Excludes --bytes, --hex and
                   --color.
   --section ID|NAME
-                  Only sections with this id, with this name in the standard,
-                  or custom sections with this name are shown. The option may
-                  be repeated. If a file has none of them, a warning says so.
+                  Only sections with this id, with this name in the standard
+                  (custom, type, import, function, table, memory, tag, global,
+                  export, start, element, datacount, code, data), or custom
+                  sections with this name are shown. The option may be
+                  repeated. If a file has none of them, a warning says so.
   --no-progress   Shows no progress. For files above 64 MiB it is otherwise a
                   line on standard error, if that is a terminal.
   --              Ends the options: all arguments after it are files.

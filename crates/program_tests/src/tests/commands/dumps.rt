@@ -191,12 +191,12 @@ const MISSING: [(&[&str], &[u8], &[u8]); 5] = [
     (
         &["dump", "--section", "3", "--section", "--section"],
         THIRD,
-        b"pulleynavy dump: standard input: no section '--section'\n",
+        b"pulleynavy dump: standard input: no section '--section'; the standard's are custom, type, import, function, table, memory, tag, global, export, start, element, datacount, code and data\n",
     ),
     (
         &["dump", "--section", "--", "--section", "3"],
         THIRD,
-        b"pulleynavy dump: standard input: no section '--'\n",
+        b"pulleynavy dump: standard input: no section '--'; the standard's are custom, type, import, function, table, memory, tag, global, export, start, element, datacount, code and data\n",
     ),
 ];
 

@@ -184,13 +184,13 @@ const PRODUCERS: [Row; 14] = [
         &["producers", "--set", "language="],
         2,
         b"",
-        b"pulleynavy producers: wrong value 'language=' of option '--set'\n",
+        b"pulleynavy producers: wrong value 'language=' of option '--set': it takes FIELD=NAME[:VERSION], and FIELD is language, processed-by or sdk\n",
     ),
     (
         &["producers", "--set=sdk=:1"],
         2,
         b"",
-        b"pulleynavy producers: wrong value 'sdk=:1' of option '--set'\n",
+        b"pulleynavy producers: wrong value 'sdk=:1' of option '--set': it takes FIELD=NAME[:VERSION], and FIELD is language, processed-by or sdk\n",
     ),
     (
         &["producers", "--set", "language=Rust:1.90", "produced"],
@@ -258,7 +258,7 @@ const PRODUCERS: [Row; 14] = [
         &["producers", "--set", "tool=x:1"],
         2,
         b"",
-        b"pulleynavy producers: wrong value 'tool=x:1' of option '--set'\n",
+        b"pulleynavy producers: wrong value 'tool=x:1' of option '--set': it takes FIELD=NAME[:VERSION], and FIELD is language, processed-by or sdk\n",
     ),
     (
         &["producers", "-o", "new", "file"],
