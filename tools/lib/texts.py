@@ -55,6 +55,8 @@ NUMBER = re.compile(r"((?:  \d+|   |body \d+ \d+) (type|func|table|memory|tag|gl
 SYMBOL = re.compile(r'(      \d+ (symbol)\[(\d+)\])((?!.* name=").*)\Z')
 # The lines that name a symbol or a type at their end, by its index.
 REFERS = re.compile(r" +\d+ (?:type=R_WASM_\w+ offset=\d+ index=(\d+) addend=-?\d+|priority=\d+ symbol_index=(\d+))\Z")
+# The lines that refer to an item, by its index: the start section, an export, a function of an element segment, and branch hints of a function.
+ITEM = re.compile(r'((?:start \d+ \d+ |  \d+ name="[^"]*" kind=(\w+) index=|    \d+ (?:index|func)=)(\d+))( hints=.*|)\Z')
 # The index spaces that subsections of names are for, and those of imports and symbols of each kind.
 SPACES = {"function": "func", "type": "type", "table": "table", "memory": "memory", "global": "global", "element": "elem", "data": "data", "tag": "tag"}
 OF_SYMBOLS = {"func": "func", "global": "global", "event": "tag", "table": "table"}
@@ -149,12 +151,15 @@ def names_in(events):
 
 
 def named(line, names):
-    """A line of a dump, with the name of its item, or of what a relocation or a function for the start refers to."""
-    numbered, refers = NUMBER.match(line) or SYMBOL.match(line), REFERS.match(line)
+    """A line of a dump, with the name of its item, or of what it refers to."""
+    numbered, refers, item = NUMBER.match(line) or SYMBOL.match(line), REFERS.match(line), ITEM.match(line)
     if numbered:
         start, space, number, rest = numbered.groups()
     elif refers:
         start, space, number, rest = line, "type" if "R_WASM_TYPE_INDEX_LEB" in line else "symbol", refers[1] or refers[2], ""
+    elif item:
+        start, kind, number, rest = item.groups()
+        space = "func" if kind in (None, "func_exact") else kind
     else:
         return line
     name = names.get((space, int(number)))

@@ -289,7 +289,10 @@ fn section_fields<O: Tree>(payload: &Payload<'_>, out: &mut O)
     ensures { Adds (O.writing out.old) (O.writing out.new) }
 {
     match payload {
-        Payload::StartSection { func, .. } => out.number("func", u64::from(*func)),
+        Payload::StartSection { func, .. } => {
+            out.number("func", u64::from(*func));
+            out.item_name(Space::Functions, u64::from(*func));
+        }
         Payload::CodeSectionStart { size, .. } => out.number("size", u64::from(*size)),
         _ => {}
     }
@@ -347,10 +350,11 @@ fn fault_object<O: Tree>(error: &Error, out: &mut O)
     }
 }
 
-// Returns the index of the function of a body.
+// Returns the index of the function of a body, or of the function that the start section names.
 fn function_of(counts: &Counts, payload: &Payload<'_>) -> Option<u64> {
     match payload {
         Payload::CodeSectionEntry(_) => Some(counts.bodies),
+        Payload::StartSection { func, .. } => Some(u64::from(*func)),
         _ => None,
     }
 }

@@ -172,6 +172,69 @@ const SPACES_OBJECTS: &[u8] =
 const FUNCTIONS: &[u8] =
     b"\0asm\x01\0\0\0\x01\x04\x01`\0\0\x03\x03\x02\0\0\x0a\x07\x02\x02\0\x0b\x02\0\x0b\0\x0e\x04name\x01\x07\x02\0\x01f\x01\x01g";
 
+/// What refers to a function or a table: exports, the start section, an element segment, branch hints.
+const REFERENCES: &[u8] =
+    b"\0asm\x01\0\0\0\x01\x04\x01`\0\0\x03\x02\x01\0\x04\x04\x01p\0\x01\x07\x09\x02\x01a\0\0\x01t\x01\0\x08\x01\0\x09\x05\x01\x01\0\x01\0\0 \x19metadata.code.branch_hint\x01\0\x01\0\x01\0\x0a\x04\x01\x02\0\x0b\0\x13\x04name\x01\x04\x01\0\x01f\x05\x06\x01\0\x03tab";
+
+const REFERENCES_NAMED: &[u8] = b"version 0 8 1 module
+section 1 10 14 1 type
+  11 type[0] type=(func)
+section 3 16 18 1 function
+  17 func[0] \"f\" index=0
+section 4 20 24 1 table
+  21 table[0] \"tab\" element_type=(ref null func) initial=1 init=null
+section 7 26 35 2 export
+  27 name=\"a\" kind=func index=0 \"f\"
+  31 name=\"t\" kind=table index=0 \"tab\"
+start 37 38 0 \"f\"
+section 9 40 45 1 element
+  41 elem[0] kind=passive functions=43..45 count=1 range=41..45
+    44 index=0 \"f\"
+custom 47 79 73
+  section name=\"metadata.code.branch_hint\" functions=73..79 count=1
+    74 func=0 \"f\" hints=75..79 count=1
+      76 func_offset=0
+code 81 85 1 3
+body 83 85 func[0] \"f\"
+custom 87 106 92
+  section name=\"name\"
+    92 function
+      95 index=0 name=\"f\"
+    98 table
+      101 index=0 name=\"tab\"
+end 106
+";
+
+const REFERENCES_OBJECTS: &[u8] =
+    b"{\"event\":\"version\",\"range\":[0,8],\"num\":1,\"encoding\":\"module\"}
+{\"event\":\"section\",\"range\":[10,14],\"id\":1,\"name\":\"type\",\"count\":1}
+{\"level\":1,\"at\":11,\"space\":\"type\",\"number\":0,\"explicit\":false,\"type\":\"(func)\"}
+{\"event\":\"section\",\"range\":[16,18],\"id\":3,\"name\":\"function\",\"count\":1}
+{\"level\":1,\"at\":17,\"space\":\"func\",\"number\":0,\"item_name\":\"f\",\"index\":0}
+{\"event\":\"section\",\"range\":[20,24],\"id\":4,\"name\":\"table\",\"count\":1}
+{\"level\":1,\"at\":21,\"space\":\"table\",\"number\":0,\"item_name\":\"tab\",\"element_type\":\"(ref null func)\",\"table64\":false,\"initial\":1,\"maximum\":null,\"shared\":false,\"init\":\"null\"}
+{\"event\":\"section\",\"range\":[26,35],\"id\":7,\"name\":\"export\",\"count\":2}
+{\"level\":1,\"at\":27,\"name\":\"a\",\"kind\":\"func\",\"index\":0,\"item_name\":\"f\"}
+{\"level\":1,\"at\":31,\"name\":\"t\",\"kind\":\"table\",\"index\":0,\"item_name\":\"tab\"}
+{\"event\":\"section\",\"range\":[37,38],\"id\":8,\"name\":\"start\",\"func\":0,\"item_name\":\"f\"}
+{\"event\":\"section\",\"range\":[40,45],\"id\":9,\"name\":\"element\",\"count\":1}
+{\"level\":1,\"at\":41,\"space\":\"elem\",\"number\":0,\"kind\":\"passive\",\"functions\":[43,45],\"count\":1,\"range\":[41,45]}
+{\"level\":2,\"at\":44,\"index\":0,\"item_name\":\"f\"}
+{\"event\":\"section\",\"range\":[47,79],\"id\":0,\"name\":\"custom\",\"custom_name\":\"metadata.code.branch_hint\",\"data_offset\":73}
+{\"level\":1,\"line\":\"section\",\"name\":\"metadata.code.branch_hint\",\"functions\":[73,79],\"count\":1}
+{\"level\":2,\"at\":74,\"func\":0,\"item_name\":\"f\",\"hints\":[75,79],\"count\":1}
+{\"level\":3,\"at\":76,\"func_offset\":0,\"taken\":false}
+{\"event\":\"section\",\"range\":[81,85],\"id\":10,\"name\":\"code\",\"count\":1,\"size\":3}
+{\"event\":\"body\",\"range\":[83,85],\"space\":\"func\",\"number\":0,\"item_name\":\"f\"}
+{\"event\":\"section\",\"range\":[87,106],\"id\":0,\"name\":\"custom\",\"custom_name\":\"name\",\"data_offset\":92}
+{\"level\":1,\"line\":\"section\",\"name\":\"name\"}
+{\"level\":2,\"at\":92,\"kind\":\"function\"}
+{\"level\":3,\"at\":95,\"index\":0,\"name\":\"f\"}
+{\"level\":2,\"at\":98,\"kind\":\"table\"}
+{\"level\":3,\"at\":101,\"index\":0,\"name\":\"tab\"}
+{\"event\":\"end\",\"offset\":106}
+";
+
 /// Three types, each after its bytes.
 const TYPES: &[u8] = b"0 | 00 61 73 6d 01 00 00 00
 version 0 8 1 module
@@ -189,9 +252,11 @@ end 20
 /// A form, a stream, and its dump.
 type Row = (Form, &'static [u8], &'static [u8]);
 
-const ROWS: [Row; 10] = [
+const ROWS: [Row; 12] = [
     (Form::Named, SPACES, SPACES_NAMED),
     (Form::NamedObjects, SPACES, SPACES_OBJECTS),
+    (Form::Named, REFERENCES, REFERENCES_NAMED),
+    (Form::NamedObjects, REFERENCES, REFERENCES_OBJECTS),
     (
         Form::Named,
         FUNCTIONS,
