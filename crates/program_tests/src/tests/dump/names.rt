@@ -30,17 +30,17 @@ section 6 64 72 1 global
   65 global[0] \"__stack_pointer\" content_type=(mut i32) init_expr=(i32.const 66592)
 section 7 74 100 3 export
   75 name=\"memory\" kind=memory index=0
-  84 name=\"name_of\" kind=func index=2
-  94 name=\"run\" kind=func index=3
+  84 name=\"name_of\" kind=func index=2 \"name_of\"
+  94 name=\"run\" kind=func index=3 \"run\"
 section 9 102 109 1 element
   103 elem[0] kind=active offset_expr=(i32.const 1) functions=107..109 count=1 range=103..109
-    108 index=1
+    108 index=1 \"next\"
 code 111 201 3 89
 body 113 142 func[1] \"next\"
 body 143 163 func[2] \"name_of\"
 body 164 201 func[3] \"run\"
 section 11 203 242 2 data
-  204 data[0] \".rodata\" kind=active memory_index=0 offset_expr=(i32.const 1024) data=22:13040000100400000100000001000000 range=204..232
+  204 data[0] \".rodata\" kind=active memory_index=0 offset_expr=(i32.const 1024) data=22:13040000100400000100000001000000.. range=204..232
   232 data[1] \".data\" kind=active memory_index=0 offset_expr=(i32.const 1048) data=4:03000000 range=232..242
 custom 244 323 249
   section name=\"name\"

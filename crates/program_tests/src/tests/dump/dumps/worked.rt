@@ -103,7 +103,7 @@ body 371 374 func[5]
 body 375 379 func[6]
 section 11 381 431 3 data
   382 data[0] kind=active memory_index=0 offset_expr=(i32.const 47) data=3:616263 range=382..390
-  390 data[1] kind=passive data=17:000102030405060708090a0b0c0d0e0f range=390..409
+  390 data[1] kind=passive data=17:000102030405060708090a0b0c0d0e0f.. range=390..409
   409 data[2] kind=active memory_index=48 offset_expr=(i32.const -1) data=16:f0f1f2f3f4f5f6f7f8f9fafbfcfdfeff range=409..431
 unknown 14 433 435
 fault 435 malformed section id
@@ -165,7 +165,7 @@ custom 11 162 16
     132 tag_parameter
       135 index=23
         137 index=24 name=\"s\"
-    140 unknown ty=14 contents=18:0102030405060708090a0b0c0d0e0f10 range=142..160
+    140 unknown ty=14 contents=18:0102030405060708090a0b0c0d0e0f10.. range=142..160
     160 unknown ty=25 contents=0: range=162..162
 custom 164 204 190
   section name=\"metadata.code.branch_hint\" functions=190..204 count=2
