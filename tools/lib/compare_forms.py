@@ -28,9 +28,9 @@ from texts import dumps, in_hex
 MODEL = common.load(common.MODEL_OF_ITEMS)
 # The line of an object of the first level. A section has the form of its name, if that is here.
 EVENTS = {
-    "version": "version {range} {num} {encoding}", "body": "body {range} {number}", "end": "end {offset}", "fault": "fault {offset} {fault}",
-    "start": "start {range} {func}", "datacount": "datacount {range} {count}", "code": "code {range} {count} {size}",
-    "custom": "custom {range} {data_offset}", "section": "section {id} {range} {count} {name}", "unknown": "unknown {id} {range}",
+    "version": "version {range} {num} {encoding}", "body": "body {range} {bytes} {number}", "end": "end {offset}", "fault": "fault {offset} {fault}",
+    "start": "start {range} {func} {bytes} {item}", "datacount": "datacount {range} {count} {bytes}", "code": "code {range} {count} {size} {bytes}",
+    "custom": "custom {range} {data_offset} {bytes} {custom}", "section": "section {id} {range} {count} {name} {bytes}", "unknown": "unknown {id} {range} {bytes}",
 }
 # The members of an object that are not among the fields of its line, the fields that are words there, without a name, those of raw bytes, whose line
 # has a mark if there are more than sixteen, and those in quotes.
@@ -83,11 +83,12 @@ def fault_of(said):
 
 def event_line(said):
     """The line of an object of the first level, which has no other members."""
-    form, known = EVENTS[kind_of(said)], {"event", "name", "id", "space", "number", "item_name", "custom_name"}
+    form, known = EVENTS[kind_of(said)], {"event", "name", "id", "space", "number", "item_name", "custom_name", "bytes", "item", "custom"}
     assert set(said) - known == set(re.findall(r"\w+(?=\})", form)) - known, said
     values = {**said, "range": " ".join(map(str, said.get("range", ())))}
     values["number"] = numbered(said) if said["event"] == "body" else None
-    values["func"] = " ".join([str(said.get("func")), *([quoted(said["item_name"])] if "item_name" in said else [])])
+    values["bytes"] = "range" in said and "size=%d" % (said["range"][1] - said["range"][0])
+    values["item"], values["custom"] = (quoted(said[name]) if name in said else "" for name in ("item_name", "custom_name"))
     values["fault"] = said["event"] == "fault" and fault_of(said)
     return form.format(**values).strip()
 

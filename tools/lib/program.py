@@ -26,7 +26,7 @@ COMMANDS = {
         "call": "[--json] [FILE...]",
         "about": (
             "Writes a line for each part of each FILE: the header, each section with its offsets and its number of items, each function body, and the end. A fault of the file is the last line, with its offset.",
-            "Lines for sections end with their names in the standard, those for custom sections with their own names, in quotes. With several files, each listing follows the name of its file.",
+            "Lines for sections have their names in the standard and their sizes, those for function bodies their sizes. Those for custom sections end with their own names, in quotes. With several files, each listing follows the name of its file.",
         ),
         "options": (("--json", None, "write a JSON object per line", "Each line is a JSON object, for programs. Its last member, file, is the name of the file."),),
         "good": "All files were read to their ends. Headers, and the order, sizes and counts of sections and bodies, are checked. A malformed item does not change the status.",
@@ -42,8 +42,8 @@ COMMANDS = {
             "A malformed item is a line that begins with fault, and the next section follows. A fault of the file itself is the last line. Function bodies are ranges of bytes.",
         ),
         "options": (
-            ("--names", None, "show the names of items", "Each file is read twice, and items are shown with their names from the custom sections called 'name', or else from the symbol table of an object file. Only regular files can be read twice: standard input and pipes are refused."),
-            ("--bytes", None, "show the bytes of each line", "Each line follows the bytes that it was read from, in hexadecimal."),
+            ("--names", None, "show the names of items", "Each file is read twice, and items, and what refers to them, are shown with their names from the custom sections called 'name', or else from the symbol table of an object file. Only regular files can be read twice: standard input and pipes are refused."),
+            ("--bytes", None, "show the bytes of each line", "Each line follows the bytes that it was read from, in hexadecimal. In the line itself only the first 16 of raw bytes are shown, and '..' if there are more."),
             ("--hex", None, "write offsets in hexadecimal", "Offsets are hexadecimal, as 0x1f. All other numbers stay decimal."),
             ("--color", "[=WHEN]", "write colors for a terminal", "The text has colors for a terminal: 'always', which is also meant without WHEN, 'never', or 'auto' if the output is a terminal."),
             ("--json", None, "write a JSON object per line", "Each line is a JSON object, for programs. Its last member, file, is the name of the file. Excludes --bytes, --hex and --color."),

@@ -333,7 +333,7 @@ fn shows_producers(rt: HostRuntime) -> Result<(), Fail> {
         &files,
         (0, &shown, b""),
     )?;
-    let line = b"custom 10 41 20\n".as_slice();
+    let line = b"custom 10 41 20 size=31 \"producers\"\n".as_slice();
     assert_eq!(rt; &shown[..line.len().min(shown.len())], line);
     Ok(())
 }
