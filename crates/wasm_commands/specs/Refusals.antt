@@ -4,7 +4,8 @@ use Rattle.std.specs.Prelude.{Result, Ok, Err, if◌then◌else◌}
 use Rattle.std.specs.declared.alloc.AllocError.{AllocError}
 use Rattle.wasm_commands.specs.ArgumentLists.{Read, Wrong, unknown_option, no_value, unwanted_value, arguments_of}
 use Rattle.wasm_commands.specs.ArgumentLists.{is_option}
-use Rattle.wasm_commands.specs.Messages.{about_word, no_command_text, unknown_command_text, unknown_option_text}
+use Rattle.wasm_commands.specs.Messages.{about_word, no_command_text, no_value_text, unknown_command_text}
+use Rattle.wasm_commands.specs.Messages.{unknown_option_text}
 use Rattle.wasm_commands.specs.Options.{verb_named}
 use Rattle.wasm_commands.specs.declared.options.Verb.{Verb}
 use Rattle.wasm_console.specs.Devices.{IsUntouched}
@@ -14,7 +15,7 @@ use Rattle.wasm_io.specs.Messages.{Says}
 -- what is said of the arguments of a command, if one is wrong
 abbrev pub wrong_text : Verb → Wrong → List ℕ
 wrong_text verb (unknown_option word) = about_word verb (codes "unknown option '") word (codes "'")
-wrong_text verb (no_value word) = about_word verb (codes "option '") word (codes "' needs a value")
+wrong_text verb (no_value word) = no_value_text verb word
 wrong_text verb (unwanted_value word) = about_word verb (codes "option '") word (codes "' takes no value")
 
 abbrev pub wrong_if_any : Verb → Result (List Read) Wrong → Option (List ℕ)

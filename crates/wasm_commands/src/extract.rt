@@ -1,8 +1,9 @@
 // The command `extract`: writes the data of a custom section.
 ghost use Rattle.std.specs.Prelude.{◌≡◌, codes, option_map};
 ghost use Rattle.wasm_commands.specs.Finding.{FindsSection, IsNamedIn};
+ghost use Rattle.wasm_commands.specs.Messages.{wrong_value_text};
 ghost use Rattle.wasm_commands.specs.Parsing.{reads_of, text_if_any};
-ghost use Rattle.wasm_commands.specs.RewriteCommands.{EndsExtract, Extracts, ExtractsFile, ExtractsFrom, Skips, value_text, wrong_value_text};
+ghost use Rattle.wasm_commands.specs.RewriteCommands.{EndsExtract, Extracts, ExtractsFile, ExtractsFrom, Skips, value_text};
 ghost use Rattle.wasm_commands.specs.Rewrites.{EndsBytes, ForwardsBytes, WritesBytes, WritesBytesFile, WritesBytesOut, WritesBytesTo, target_in};
 ghost use Rattle.wasm_commands.specs.declared.options.Verb.TheVariants.{Extract};
 ghost use Rattle.wasm_console.specs.Messages.{joined};
