@@ -28,13 +28,15 @@ from texts import dumps, in_hex
 MODEL = common.load(common.MODEL_OF_ITEMS)
 # The line of an object of the first level. A section has the form of its name, if that is here.
 EVENTS = {
-    "version": "version {range} {num} {encoding}", "body": "body {range} {number}", "end": "end {offset}", "fault": "fault {offset} {fault}",
-    "start": "start {range} {func}", "datacount": "datacount {range} {count}", "code": "code {range} {count} {size}",
-    "custom": "custom {range} {data_offset}", "section": "section {id} {range} {count} {name}", "unknown": "unknown {id} {range}",
+    "version": "version {range} {num} {encoding}", "body": "body {range} {bytes} {number}", "end": "end {offset}", "fault": "fault {offset} {fault}",
+    "start": "start {range} {func} {bytes} {item}", "datacount": "datacount {range} {count} {bytes}", "code": "code {range} {count} {size} {bytes}",
+    "custom": "custom {range} {data_offset} {bytes} {custom}", "section": "section {id} {range} {count} {name} {bytes}", "unknown": "unknown {id} {range} {bytes}",
 }
-# The members of an object that are not among the fields of its line, the fields that are words there, without a name, and those in quotes.
-APART = {"level", "at", "line", "space", "number", "item_name", "flag_words"}
+# The members of an object that are not among the fields of its line, the fields that are words there, without a name, those of raw bytes, whose line
+# has a mark if there are more than sixteen, and those in quotes.
+APART = {"level", "at", "line", "space", "number", "flag_words"}
 WORDS = {"known", "symbol", "value"}
+RAW = {"data", "contents"}
 QUOTED = {"module", "name", "field", "version", "process", "thread", "target_arch"}
 ROW = re.compile(r"(\d+) \|((?: [0-9a-f]{2}){1,16})\Z")
 # What sets a color. No dump has such bytes of its own: texts in quotes escape them.
@@ -81,10 +83,12 @@ def fault_of(said):
 
 def event_line(said):
     """The line of an object of the first level, which has no other members."""
-    form, known = EVENTS[kind_of(said)], {"event", "name", "id", "space", "number", "item_name", "custom_name"}
+    form, known = EVENTS[kind_of(said)], {"event", "name", "id", "space", "number", "item_name", "custom_name", "bytes", "item", "custom"}
     assert set(said) - known == set(re.findall(r"\w+(?=\})", form)) - known, said
     values = {**said, "range": " ".join(map(str, said.get("range", ())))}
     values["number"] = numbered(said) if said["event"] == "body" else None
+    values["bytes"] = "range" in said and "size=%d" % (said["range"][1] - said["range"][0])
+    values["item"], values["custom"] = (quoted(said[name]) if name in said else "" for name in ("item_name", "custom_name"))
     values["fault"] = said["event"] == "fault" and fault_of(said)
     return form.format(**values).strip()
 
@@ -99,6 +103,10 @@ def field(name, value, said):
     if name == "flags" and "flag_words" in said:
         value = MODEL.flags_text(value, MODEL.SEGMENT_FLAGS if "alignment" in said else MODEL.SYMBOL_FLAGS)
         assert value == said["flag_words"], said
+    if name == "item_name":
+        return quoted(value)
+    if name in RAW and int(value.split(":")[0]) > 16:
+        value += ".."
     if isinstance(value, list):
         return "%s=%d..%d" % (name, *value)
     text = quoted(value) if name in QUOTED and isinstance(value, str) else str(value)
@@ -111,8 +119,8 @@ def item_line(said):
         words = ["fault %d %s" % (said["offset"], fault_of(said))]
     else:
         words = [str(said.get("at", "")), said.get("line", ""), numbered(said)]
-        words += [field(name, value, said) for name, value in said.items() if name not in APART]
-        words += [quoted(said["item_name"])] if "item_name" in said and "space" not in said else []
+        apart = APART | ({"item_name"} if "space" in said else set())
+        words += [field(name, value, said) for name, value in said.items() if name not in apart]
     return "  " * said["level"] + " ".join(filter(None, words))
 
 

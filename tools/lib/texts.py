@@ -32,15 +32,23 @@ class Numbers:
         return model.lines_of(model.Item(item, "%s %s" % (self.next(space), item.line), item.under), at)
 
 
+def with_end(line, ident, bodies, items):
+    """The line of an event, with what a dump adds to that of a listing: the name of its section, its size, the number of the function of a body, and
+    the name of a custom section."""
+    word, *numbers = line.split(" ")
+    if word in ("version", "end", "fault"):
+        return line
+    start, end = numbers[word in ("section", "unknown") :][:2]
+    name = " " + S.NAMES[ident] if word == "section" else ""
+    last = " " + bodies.next("func") if word == "body" else " " + CUSTOM.match("  " + items[0][1].line)[1] if word == "custom" else ""
+    return "%s%s size=%d%s" % (line, name, int(end) - int(start), last)
+
+
 def plain_events(model, data):
     """The lines of a dump of a stream, for each event those of it and of what is below it, without names of items and symbols."""
     numbers, bodies = Numbers(), Numbers()
     for line, ident, items in model.walked(data, readers=model.SHOWN, at_once=True):
-        if line.startswith("section "):
-            line = "%s %s" % (line, S.NAMES[ident])
-        elif line.startswith("body "):
-            line = "%s %s" % (line, bodies.next("func"))
-        event = [line]
+        event = [with_end(line, ident, bodies, items)]
         for at, item in items:
             event += model.indented(model.lines_of(item) if at is None else numbers.lines_of(model, ident, at, item))
         yield event
@@ -51,10 +59,12 @@ def plain_events(model, data):
 # ---- names
 
 # The lines that have a name after a number: those of items and bodies, and those of symbols without a field for it.
-NUMBER = re.compile(r"((?:  \d+|   |body \d+ \d+) (type|func|table|memory|tag|global|elem|data)\[(\d+)\])(.*)\Z")
+NUMBER = re.compile(r"((?:  \d+|   |body \d+ \d+ size=\d+) (type|func|table|memory|tag|global|elem|data)\[(\d+)\])(.*)\Z")
 SYMBOL = re.compile(r'(      \d+ (symbol)\[(\d+)\])((?!.* name=").*)\Z')
 # The lines that name a symbol or a type at their end, by its index.
 REFERS = re.compile(r" +\d+ (?:type=R_WASM_\w+ offset=\d+ index=(\d+) addend=-?\d+|priority=\d+ symbol_index=(\d+))\Z")
+# The lines that refer to an item, by its index: the start section, an export, a function of an element segment, and branch hints of a function.
+ITEM = re.compile(r'((?:start \d+ \d+ |  \d+ name="[^"]*" kind=(\w+) index=|    \d+ (?:index|func)=)(\d+)(?: size=\d+)?)( hints=.*|)\Z')
 # The index spaces that subsections of names are for, and those of imports and symbols of each kind.
 SPACES = {"function": "func", "type": "type", "table": "table", "memory": "memory", "global": "global", "element": "elem", "data": "data", "tag": "tag"}
 OF_SYMBOLS = {"func": "func", "global": "global", "event": "tag", "table": "table"}
@@ -149,12 +159,15 @@ def names_in(events):
 
 
 def named(line, names):
-    """A line of a dump, with the name of its item, or of what a relocation or a function for the start refers to."""
-    numbered, refers = NUMBER.match(line) or SYMBOL.match(line), REFERS.match(line)
+    """A line of a dump, with the name of its item, or of what it refers to."""
+    numbered, refers, item = NUMBER.match(line) or SYMBOL.match(line), REFERS.match(line), ITEM.match(line)
     if numbered:
         start, space, number, rest = numbered.groups()
     elif refers:
         start, space, number, rest = line, "type" if "R_WASM_TYPE_INDEX_LEB" in line else "symbol", refers[1] or refers[2], ""
+    elif item:
+        start, kind, number, rest = item.groups()
+        space = "func" if kind in (None, "func_exact") else kind
     else:
         return line
     name = names.get((space, int(number)))

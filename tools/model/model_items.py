@@ -230,8 +230,8 @@ def text(r):
 
 
 def contents(b):
-    """Raw bytes: a line has their count and the first sixteen."""
-    return Item(x(b), "%d:%s" % (len(b), b[:16].hex()))
+    """Raw bytes: a line has their count and the first sixteen, and a mark if there are more."""
+    return Item(x(b), "%d:%s%s" % (len(b), b[:16].hex(), ".." if len(b) > 16 else ""))
 
 
 def u32(r):

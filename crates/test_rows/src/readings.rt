@@ -4,8 +4,8 @@ use std::alloc::Global;
 use wasm_base::{Error, Fault, Result as Read, WasmFeatures};
 use wasm_dumper::write_payload;
 use wasm_feed::{BoundedSink, Ended, Feeder, ListError, SliceSource, Step, list};
-use wasm_io::{Base, write_number};
-use wasm_lines::write_fault;
+use wasm_io::{Base, ShortText, write_number};
+use wasm_lines::FaultLine;
 use wasm_parser::{Chunk, Parser, Payload};
 
 /// A stream.
@@ -80,7 +80,11 @@ impl Gathered {
     // Adds the text of a fault in a listing and, if it has a hint, how many bytes are missing.
     fn add_fault(&mut self, error: &Error) {
         let mut text = [b' '; 161];
-        let end = write_fault(&mut text, 2, Base::Decimal, error);
+        let line = FaultLine {
+            base: Base::Decimal,
+            error,
+        };
+        let end = line.write_at(&mut text, 2);
         self.add(&text[..end]);
         if let Some(missing) = error.needed_hint() {
             self.add_number(" missing=", missing as u64);

@@ -50,11 +50,11 @@ goes_on {C} {T} next old c d before out count left item e s =
     }
 
 -- `goes_on`, by the number of unfilled elements
-pub goes_on_at : {C T : Type 0} (next : C → Option T × C) (old c d : C) (before out : List T)
-    (count : ℕ) (item : T) → next c ≡ (Some item, d) → count < length out
+pub goes_on_at : {C T : Type 0} {next : C → Option T × C} {old c d : C} {before out : List T}
+    {count : ℕ} {item : T} → next c ≡ (Some item, d) → count < length out
     → Stored next old before count (length out - count) c out
     → Stored next old before (count + 1) (length (set out count item) - (count + 1)) d (set out count item)
-goes_on_at {C} {T} next old c d before out count item e within s =
+goes_on_at {C} {T} {next} {old} {c} {d} {before} {out} {count} {item} e within s =
     let before_it : length out - count ≡ suc (length (set out count item) - (count + 1)) =
     omega (arith, length-set out count item, within) in
     goes_on next old c d before out count (length (set out count item) - (count + 1)) item e

@@ -4,7 +4,7 @@ use Rattle.std.proofs.Common.{nat_eq, refl, sym, ap, arith, append_assoc, drop-d
 use Rattle.std.proofs.Math.ListN.{set}
 use Rattle.std.proofs.lemmas.List.{append-nil, drop-set-lt, length-set, take_more_set}
 use Rattle.wasm_frames.specs.ParserState.{ParserState}
-use Rattle.wasm_c_items.specs.EventBatches.{GoesOn, ParsesEach, StoresEvents}
+use Rattle.wasm_c_items.specs.EventBatches.{OthersFollow, ParsesEach, StoresEvents}
 use Rattle.wasm_c_items.specs.Events.{ParsesPlain}
 use Rattle.wasm_c_items.specs.declared.events.PlainEvent.{PlainEvent}
 
@@ -49,7 +49,7 @@ goes_on eof old p q bytes rest before out count left at event parses some s =
           (more count out events event within) (s.so_far (event ∷ events) new (record {
             after = q;
             parses = parses;
-            then = subst (λ (b : Bool). GoesOn b events new (λ x. ParsesEach eof left (min (at + event.consumed) (2 ^ 64 - 1)) x
+            then = subst (λ (b : Bool). OthersFollow b events new (λ x. ParsesEach eof left (min (at + event.consumed) (2 ^ 64 - 1)) x
                 (drop event.consumed rest) events new) q) (sym some) h;
           }));
     }
@@ -81,7 +81,7 @@ ends_at eof old p q bytes rest before out count at event parses last within s =
           (s.so_far (event ∷ []) q (subst (λ (n : ℕ). ParsesEach eof n at p rest (event ∷ []) q) (sym one_more) (record {
             after = q;
             parses = parses;
-            then = subst (λ (b : Bool). GoesOn b [] q (λ x. ParsesEach eof left (min (at + event.consumed) (2 ^ 64 - 1)) x
+            then = subst (λ (b : Bool). OthersFollow b [] q (λ x. ParsesEach eof left (min (at + event.consumed) (2 ^ 64 - 1)) x
                 (drop event.consumed rest) [] q) q) (sym last) (refl, refl);
           })));
       same = length-set out count event ∙ s.same;

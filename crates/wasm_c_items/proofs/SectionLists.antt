@@ -14,7 +14,7 @@ use Rattle.wasm_base.specs.declared.error.Error.{Error}
 use Rattle.wasm_base.specs.declared.fault.Fault.TheVariants.{SizeMismatch}
 use Rattle.wasm_frames.specs.Stored.{is_set}
 use Rattle.wasm_c_items.specs.Cursors.{after_item, end_by, ended, item_by, item_of, moved_to, next_by, place_of, start_of}
-use Rattle.wasm_c_items.specs.SectionLists.{IsBeside, ListsAreSections, ReturnsTheSame, listed}
+use Rattle.wasm_c_items.specs.SectionLists.{IsBeside, ListsAreSections, ReturnsTheSame, listed_item}
 use Rattle.wasm_c_items.specs.Spans.{read_over}
 use Rattle.wasm_c_items.specs.declared.cursors.StoredItems.{StoredItems}
 
@@ -71,7 +71,7 @@ both_over bytes c s = record { over = refl; place = λ e. absurd (true≢false e
 -- a list without remaining items, with this many bytes left
 at_last : {X T : Type 0} (plain : (from : ℕ) → Place → Outcome X → T) (bytes : List ℕ) (c : StoredItems) (s t : Items)
     (given : Option (Result X Error)) (rest : List ℕ) → place_of c rest ≡ place s.reader → ReadsEnd s given t
-    → ((end_by plain c rest).0 ≡ listed (plain (start_of c)) (place s.reader) (place t.reader) given)
+    → ((end_by plain c rest).0 ≡ listed_item (plain (start_of c)) (place s.reader) (place t.reader) given)
     × IsBeside bytes (end_by plain c rest).1 t
 at_last plain bytes c s t None [] at is = (refl, rw is.1 (both_over bytes c s))
 at_last plain bytes c s t None (b ∷ bs) at is = absurd (omega (arith, ap (λ (p : Place). length p.rest) at, is.0))
@@ -96,7 +96,7 @@ at_item : {X T : Type 0} (plain : (from : ℕ) → Place → Outcome X → T) (r
     → c.offset + length (drop c.position bytes) < 2 ^ 64 → is_set c.is_ended ≡ false
     → place_of c (drop c.position bytes) ≡ place s.reader → c.remaining ≡ s.left → KeepsWindow s.reader t.reader
     → ReadsItem (λ p outcome. reading p ≡ outcome) s given t
-    → ((item_by plain reading c (drop c.position bytes)).0 ≡ listed (plain (start_of c)) (place s.reader) (place t.reader) given)
+    → ((item_by plain reading c (drop c.position bytes)).0 ≡ listed_item (plain (start_of c)) (place s.reader) (place t.reader) given)
     × IsBeside bytes (item_by plain reading c (drop c.position bytes)).1 t
 at_item plain reading bytes c s t None short fits goes at left keeps is = absurd is
 at_item plain reading bytes c s t (Some (Ok x)) short fits goes at left keeps is =
@@ -134,7 +134,7 @@ no_zero n = grind arith
 returned : {X T : Type 0} (plain : (from : ℕ) → Place → Outcome X → T) (reading : Place → Outcome X) (bytes : List ℕ)
     (c : StoredItems) (s t : Items) (given : Option (Result X Error)) (r : Option T × StoredItems)
     → next_by plain reading bytes c ≡ r
-    → (r.0 ≡ listed (plain (start_of c)) (place s.reader) (place t.reader) given) × IsBeside bytes r.1 t
+    → (r.0 ≡ listed_item (plain (start_of c)) (place s.reader) (place t.reader) given) × IsBeside bytes r.1 t
     → ReturnsTheSame plain reading bytes c s given t
 returned plain reading bytes c s t given r same is = record {
   result = ap (λ (x : Option _ × StoredItems). x.0) same ∙ is.0;

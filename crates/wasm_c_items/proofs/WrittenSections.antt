@@ -1,12 +1,12 @@
 -- Sections at the front of other bytes.
 use Rattle.std.proofs.Common.{◌≡◌, ◌∙◌, ℕ, ◌+◌, ◌≤◌, List, ◌++◌, length, take, drop, ap, sym, arith}
 use Rattle.std.proofs.lemmas.List.{take-append-drop}
-use Rattle.wasm_edits.specs.Edited.{IsWritten}
+use Rattle.wasm_edits.specs.Edited.{FillsFront}
 
 -- bytes that were written at the index 0, where there was room for them
 pub written_at_front : {size : ℕ} (bytes old new : List ℕ) (end : ℕ) → end ≡ 0 + length bytes
     → take end new ≡ take 0 old ++ bytes → drop end new ≡ drop end old → size ≡ length bytes → size ≤ length old
-    → IsWritten bytes old new
+    → FillsFront bytes old new
 written_at_front bytes old new end is written rest size room =
     let at_end : end ≡ length bytes = omega (arith, is) in (
       λ f. sym (take-append-drop end new) ∙ (ap (λ (xs : List ℕ). xs ++ drop end new) written

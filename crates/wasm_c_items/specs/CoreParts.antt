@@ -3,5 +3,5 @@ use Rattle.wasm_c_items.specs.CoreHeads as Heads
 use Rattle.wasm_c_items.specs.declared.coredumps.FrameHead.{FrameHead}
 
 -- | the heads of frames and instances as the code has them
-abbrev pub frame_parts : FrameHead → Heads.FrameHead
-frame_parts f = record { instance = f.instance; func = f.func; code_offset = f.code_offset }
+abbrev pub frame_head_parts : FrameHead → Heads.FrameHead
+frame_head_parts f = record { instance = f.instance; func = f.func; code_offset = f.code_offset }

@@ -90,16 +90,16 @@ takes c (Some index) = if is_set c.has_last then
     (true, record c { last = index; has_last = 1 })
 
 -- an item, or the fault of one that is out of order
-abbrev pub unless_refused : {T : Type 0} → (item refused : T) → Bool × StoredItems → Option T × StoredItems
-unless_refused item refused (true, c) = (Some item, c)
-unless_refused item refused (false, c) = (Some refused, c)
+abbrev pub taken_or_refused : {T : Type 0} → (item refused : T) → Bool × StoredItems → Option T × StoredItems
+taken_or_refused item refused (true, c) = (Some item, c)
+taken_or_refused item refused (false, c) = (Some refused, c)
 
 -- | an entry whose index or id has to be above the last one [`takes`] <Appendix, Custom Sections>
 -- what a call returns whose items have to be in order
 abbrev pub in_order : {T : Type 0} → (index : T → Option ℕ) → (refused : FaultAt → T) → FaultAt → Option T × StoredItems
     → Option T × StoredItems
 in_order index refused order (None, c) = (None, c)
-in_order index refused order (Some item, c) = unless_refused item (refused order) (takes c (index item))
+in_order index refused order (Some item, c) = taken_or_refused item (refused order) (takes c (index item))
 
 -- ---- names and subsections
 

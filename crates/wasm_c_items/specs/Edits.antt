@@ -5,7 +5,7 @@ use Rattle.std.specs.Borrow.{Bor}
 use Rattle.std.specs.Str.{IsUtf8}
 use Rattle.wasm_base.specs.FaultAt.{fault_at}
 use Rattle.wasm_base.specs.declared.error.Error.{Error}
-use Rattle.wasm_edits.specs.Edited.{EditsTo, IsWritten}
+use Rattle.wasm_edits.specs.Edited.{EditsTo, FillsFront}
 use Rattle.wasm_edits.specs.Edits.{CanBeMade}
 use Rattle.wasm_edits.specs.Encoded.{Fits, encoded_section}
 use Rattle.wasm_edits.specs.declared.edits.Edit.{Edit}
@@ -21,18 +21,18 @@ use Rattle.wasm_c_items.specs.declared.edits.PlainEdited.{PlainEdited}
 -- ---- sections
 
 -- The section has this name and this data.
-abbrev pub IsSection : (name contents : List ℕ) → NewSection → Type 0
-IsSection name contents section = (section.name.now ≡ name) × (section.«data».now ≡ contents)
+abbrev pub HasNameAndData : (name contents : List ℕ) → NewSection → Type 0
+HasNameAndData name contents section = (section.name.now ≡ name) × (section.«data».now ≡ contents)
 
 -- The section that has them can be written; or none that has them can.
 abbrev pub IsNewSection : (name contents : List ℕ) → Option NewSection → Type 0
-IsNewSection name contents (Some section) = IsSection name contents section × Fits section
-IsNewSection name contents None = (section : NewSection) → IsSection name contents section → ¬ Fits section
+IsNewSection name contents (Some section) = HasNameAndData name contents section × Fits section
+IsNewSection name contents None = (section : NewSection) → HasNameAndData name contents section → ¬ Fits section
 
 -- A section was written to the front of other bytes, if there is room for it; without one, nothing was written.
 abbrev pub WritesSection : Option NewSection → (old : List ℕ) (size : ℕ) (new : List ℕ) → Type 0
 WritesSection (Some section) old size new = (size ≡ length (encoded_section section))
-    × IsWritten (encoded_section section) old new
+    × FillsFront (encoded_section section) old new
 WritesSection None old size new = (size ≡ 0) × (new ≡ old)
 
 -- | a custom section that is written to the caller's bytes, by its name and its data <Custom Section>
@@ -44,17 +44,17 @@ pub record EncodesPlain (name contents old : List ℕ) (size : ℕ) (new : List 
 
 -- ---- edits
 
-abbrev pub texts : List (Bor (List ℕ)) → List (List ℕ)
-texts names = map (λ name. name.now) names
+abbrev pub names_as_bytes : List (Bor (List ℕ)) → List (List ℕ)
+names_as_bytes names = map (λ name. name.now) names
 
 -- The choice keeps the sections with these names, and no others.
 abbrev pub KeepsOnly : (names : List (List ℕ)) → Keep → Type 0
-KeepsOnly names keep = (keep.names ≡ false) × (texts keep.kept.now ≡ names) × (keep.removed.now ≡ [])
+KeepsOnly names keep = (keep.names ≡ false) × (names_as_bytes keep.kept.now ≡ names) × (keep.removed.now ≡ [])
 
 -- | the edit of each kind, by its name and its data; or why there is none [`IsChoice`, `IsChosen`]
 abbrev pub IsEdit : (kind : ℕ) (name contents : List ℕ) → Edit → Type 0
-IsEdit kind name contents (edit.Append section) = (kind ≡ 0) × IsSection name contents section
-IsEdit kind name contents (edit.Replace section) = (kind ≡ 1) × IsSection name contents section
+IsEdit kind name contents (edit.Append section) = (kind ≡ 0) × HasNameAndData name contents section
+IsEdit kind name contents (edit.Replace section) = (kind ≡ 1) × HasNameAndData name contents section
 IsEdit kind name contents (edit.Remove removed) = (kind ≡ 2) × (removed.now ≡ name)
 IsEdit kind name contents (edit.Keep keep) = (kind ≡ 3) × KeepsOnly (name ∷ []) keep
 

@@ -13,10 +13,10 @@ pub record ParsesFirst (base : ℕ) (old : ParserState) (eof : Bool) (bytes : Li
   pub then : Then after
 
 -- No events come after one that consumed nothing, and else these.
-abbrev pub GoesOn : (is_last : Bool) (events : List PlainEvent) (new : ParserState) → (Others : ParserState → Type 0)
-    → ParserState → Type 0
-GoesOn true events new Others p = (events ≡ []) × (new ≡ p)
-GoesOn false events new Others p = Others p
+abbrev pub OthersFollow : (is_last : Bool) (events : List PlainEvent) (new : ParserState)
+    → (Others : ParserState → Type 0) → ParserState → Type 0
+OthersFollow true events new Others p = (events ≡ []) × (new ≡ p)
+OthersFollow false events new Others p = Others p
 
 -- | events were returned one after the other, up to one that consumed nothing; their number was stored
 --   [`StoresEvents`]
@@ -28,8 +28,8 @@ ParsesEach eof zero base old bytes [] new = new ≡ old
 ParsesEach eof zero base old bytes (event ∷ events) new = ⊥
 ParsesEach eof (suc room) base old bytes [] new = ⊥
 ParsesEach eof (suc room) base old bytes (event ∷ events) new = ParsesFirst base old eof bytes event
-    (GoesOn (nat_eq event.consumed 0) events new (λ p. ParsesEach eof room (min (base + event.consumed) (2 ^ 64 - 1)) p
-    (drop event.consumed bytes) events new))
+    (OthersFollow (nat_eq event.consumed 0) events new (λ p. ParsesEach eof room
+    (min (base + event.consumed) (2 ^ 64 - 1)) p (drop event.consumed bytes) events new))
 
 -- So many events were stored, and the rest of the room is as it was.
 pub record StoresEvents (eof : Bool) (old : ParserState) (bytes : List ℕ) (before : List PlainEvent) (count : ℕ)

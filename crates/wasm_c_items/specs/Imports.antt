@@ -7,8 +7,8 @@ use Rattle.wasm_items.specs.Imports.{Bundle, ItemParts, item_at, single, of_modu
 use Rattle.wasm_items.specs.declared.imports.TypeRef.{TypeRef}
 use Rattle.wasm_items.specs.declared.imports.TypeRef.TheVariants.{Func, Table, Memory, Global, Tag, FuncExact}
 use Rattle.wasm_c_items.specs.Faults.{no_fault, plain_fault}
-use Rattle.wasm_c_items.specs.Kinds.{no_global_type, no_memory_type, no_table_type, plain_global_type, plain_memory_type}
-use Rattle.wasm_c_items.specs.Kinds.{plain_table_type}
+use Rattle.wasm_c_items.specs.Kinds.{no_global_type, no_memory_type, no_table_type, plain_global_type}
+use Rattle.wasm_c_items.specs.Kinds.{plain_memory_type, plain_table_type}
 use Rattle.wasm_c_items.specs.Readable.{item_over}
 use Rattle.wasm_c_items.specs.Spans.{items_span, no_span, text_after, text_span}
 use Rattle.wasm_c_items.specs.declared.imports.PlainImport.{PlainImport}

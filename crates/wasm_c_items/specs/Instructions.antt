@@ -56,8 +56,8 @@ abbrev pub with_heap : (consumed : ℕ) → HeapType → PlainInstruction
 with_heap consumed heap = record (indexed consumed 0xD0 (heap_index heap)) { heap = heap_code heap }
 
 -- an array of this many elements
-abbrev pub with_count : (consumed index count : ℕ) → PlainInstruction
-with_count consumed index count = record (indexed consumed 0xFB08 index) { count = count }
+abbrev pub array_of_count : (consumed index count : ℕ) → PlainInstruction
+array_of_count consumed index count = record (indexed consumed 0xFB08 index) { count = count }
 
 -- an instruction of this many bytes, of which these are the last 16. Core specification, Binary format, Instructions.
 abbrev pub instruction_from : (consumed : ℕ) → (last : PlainSpan) → ConstOperator → PlainInstruction
@@ -83,7 +83,7 @@ instruction_from consumed last (F32Const value) = with_bits consumed 0x43 (bits_
 instruction_from consumed last (F64Const value) = with_bits consumed 0x44 (bits_of_64 value)
 instruction_from consumed last (V128Const value) = with_vector consumed last
 instruction_from consumed last (RefNull heap) = with_heap consumed heap
-instruction_from consumed last (ArrayNewFixed index size) = with_count consumed index size
+instruction_from consumed last (ArrayNewFixed index size) = array_of_count consumed index size
 
 -- an instruction
 abbrev pub plain_instruction : (from : ℕ) → Place → Outcome ConstInstruction → PlainInstruction

@@ -10,8 +10,8 @@ made plain (Ok x) = Ok (plain (Ok x), x.1)
 made plain (Err f) = Err f
 
 -- reading an item as a struct of plain numbers
-abbrev pub plainly : {X T : Type 0} → (Place → Outcome X → T) → (Place → Outcome X) → Place → Outcome T
-plainly plain reading p = made (plain p) (reading p)
+abbrev pub read_plainly : {X T : Type 0} → (Place → Outcome X → T) → (Place → Outcome X) → Place → Outcome T
+read_plainly plain reading p = made (plain p) (reading p)
 
 -- | an item where the caller's bytes begin, or its fault
 -- the item at the start of these bytes, or its fault

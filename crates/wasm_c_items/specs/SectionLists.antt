@@ -18,16 +18,17 @@ pub record IsBeside (bytes : List ℕ) (c : StoredItems) (s : Items) : Type 0 wh
   pub left : s.ended ≡ false → c.remaining ≡ s.left
 
 -- the result of an iterator that was at one place and is at another, as a list returns it
-abbrev pub listed : {X T : Type 0} → (plain : Place → Outcome X → T) → (p q : Place) → Option (Result X Error)
+abbrev pub listed_item : {X T : Type 0} → (plain : Place → Outcome X → T) → (p q : Place) → Option (Result X Error)
     → Option T
-listed plain p q None = None
-listed plain p q (Some (Ok x)) = Some (plain p (Ok (x, q)))
-listed plain p q (Some (Err e)) = Some (plain p (Err (fault_at e)))
+listed_item plain p q None = None
+listed_item plain p q (Some (Ok x)) = Some (plain p (Ok (x, q)))
+listed_item plain p q (Some (Err e)) = Some (plain p (Err (fault_at e)))
 
 -- The call returned the same as `next`, and the cursor is beside the iterator again.
 pub record ReturnsTheSame {X T : Type 0} (plain : (from : ℕ) → Place → Outcome X → T) (reading : Place → Outcome X)
     (bytes : List ℕ) (c : StoredItems) (s : Items) (given : Option (Result X Error)) (t : Items) : Type 0 where
-  pub result : (next_by plain reading bytes c).0 ≡ listed (plain (start_of c)) (place s.reader) (place t.reader) given
+  pub result : (next_by plain reading bytes c).0
+      ≡ listed_item (plain (start_of c)) (place s.reader) (place t.reader) given
   pub beside : IsBeside bytes (next_by plain reading bytes c).1 t
 
 -- A list whose bytes are within the offsets of a stream returns the items of a section with the same bytes and count,

@@ -22,8 +22,8 @@ linking_version_at p = do
       Err (record { fault = LinkingVersion; offset = p.offset; number = Some version.0 })
 
 -- the flags of a symbol, after its kind
-abbrev pub flags_at : Place → Outcome ℕ
-flags_at p = do
+abbrev pub symbol_flags_at : Place → Outcome ℕ
+symbol_flags_at p = do
   kind ← byte_at p
   unsigned_at VarU32 kind.1
 
@@ -42,9 +42,9 @@ no_symbol = record {
 }
 
 -- whether there is a name, and its span as the last part of a symbol that ends at an offset
-abbrev pub name_parts : (from to : ℕ) → Option (List ℕ) → ℕ × PlainSpan
-name_parts from to None = (0, no_span)
-name_parts from to (Some text) = (1, span_before from to (length text))
+abbrev pub symbol_name_parts : (from to : ℕ) → Option (List ℕ) → ℕ × PlainSpan
+symbol_name_parts from to None = (0, no_span)
+symbol_name_parts from to (Some text) = (1, span_before from to (length text))
 
 abbrev pub indexed_symbol : (consumed kind flags index : ℕ) → (name : ℕ × PlainSpan) → PlainSymbol
 indexed_symbol consumed kind flags index name = record no_symbol {
@@ -69,9 +69,9 @@ named_symbol consumed flags name =
 -- a symbol at a place that ends at an offset
 abbrev pub symbol_from : (from : ℕ) → Place → (to : ℕ) → SymbolParts → PlainSymbol
 symbol_from from p to (indexed kind flags index name) =
-    indexed_symbol (to - p.offset) kind flags index (name_parts from to name)
+    indexed_symbol (to - p.offset) kind flags index (symbol_name_parts from to name)
 symbol_from from p to (data_symbol flags name symbol) =
-    placed_symbol (named_symbol (to - p.offset) flags (text_after from (length name) (flags_at p))) symbol
+    placed_symbol (named_symbol (to - p.offset) flags (text_after from (length name) (symbol_flags_at p))) symbol
 symbol_from from p to (section_symbol flags section) =
     record no_symbol { consumed = to - p.offset; kind = 3; flags = flags; index = section }
 

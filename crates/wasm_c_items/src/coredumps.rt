@@ -3,7 +3,7 @@ ghost use Rattle.std.specs.Prelude.{List, ℕ, ◌≡◌};
 ghost use Rattle.wasm_base.specs.Outcome.{GivesBy};
 ghost use Rattle.wasm_base.specs.Window.{KeepsWindow};
 ghost use Rattle.wasm_c_items.specs.CoreHeads.{FrameHead, core_bits, core_code, core_integer, frame_head_at, instance_head_at, started_text_at};
-ghost use Rattle.wasm_c_items.specs.CoreParts.{frame_parts};
+ghost use Rattle.wasm_c_items.specs.CoreParts.{frame_head_parts};
 ghost use Rattle.wasm_c_items.specs.Coredumps.{plain_core_frame, plain_core_instance, plain_core_module, plain_core_process, plain_core_thread, plain_core_value};
 ghost use Rattle.wasm_custom.specs.Coredumps.{ValueParts, module_at, start_at, value_at, value_parts};
 ghost use Rattle.wasm_base.specs.declared.fault.CoreStart.TheVariants as Starts;
@@ -146,7 +146,7 @@ fn read_instance(reader: &mut BinaryReader<'_>) -> Result<u32>
 // The head of a frame.
 #[tactic(auto, unfolding(crate::specs::CoreHeads::frame_head_at))]
 fn read_frame(reader: &mut BinaryReader<'_>) -> Result<FrameHead>
-    ensures gives { GivesBy frame_parts result reader.old reader.new frame_head_at }
+    ensures gives { GivesBy frame_head_parts result reader.old reader.new frame_head_at }
     ensures keeps { KeepsWindow reader.old reader.new }
 {
     read_start(CoreStart::Frame, reader.original_position(), reader)?;

@@ -1,9 +1,9 @@
 // Custom sections that are written, and edits of a stream, one a call.
 ghost use Rattle.std.specs.Prelude.{◌≡◌, [], ◌∷◌, All, IfOk, length};
-ghost use Rattle.wasm_edits.specs.Edited.{IsWritten};
+ghost use Rattle.wasm_edits.specs.Edited.{FillsFront};
 ghost use Rattle.wasm_edits.specs.Edits.{CanBeMade};
 ghost use Rattle.wasm_edits.specs.Encoded.{Fits, encoded_section};
-ghost use Rattle.wasm_c_items.specs.Edits.{Answers, EditsPlain, EncodesPlain, IsChoice, IsEditOf, IsNewSection, KeepsOnly, MakesEdits, plain_edit, refused, room_status, status_code, texts};
+ghost use Rattle.wasm_c_items.specs.Edits.{Answers, EditsPlain, EncodesPlain, IsChoice, IsEditOf, IsNewSection, KeepsOnly, MakesEdits, plain_edit, refused, room_status, status_code, names_as_bytes};
 
 use crate::faults::{NO_FAULT, PlainFault, plain_fault};
 use wasm_edits::{Edit, Keep, NewSection, edit_to};
@@ -68,7 +68,7 @@ fn new_section<'a>(name: &'a [u8], data: &'a [u8]) -> Option<NewSection<'a>>
 fn write_section(section: &NewSection<'_>, out: &mut [u8]) -> usize
     requires { Fits section.now }
     ensures size { result ≡ length (encoded_section section.now) }
-    ensures written { IsWritten (encoded_section section.now) out.old out.new }
+    ensures written { FillsFront (encoded_section section.now) out.old out.new }
 {
     let size = section.size();
     if size <= out.len() {
@@ -93,7 +93,7 @@ pub fn encode_custom(name: &[u8], data: &[u8], out: &mut [u8]) -> usize
 
 // The choice that keeps the sections with these names.
 fn only<'a>(names: &'a [&'a str]) -> Keep<'a>
-    ensures { KeepsOnly (texts names.now) result }
+    ensures { KeepsOnly (names_as_bytes names.now) result }
 {
     Keep {
         names: false,
@@ -104,7 +104,7 @@ fn only<'a>(names: &'a [&'a str]) -> Keep<'a>
 
 // Returns the edit of this kind; none if no edit has it. The names to keep are that of the section.
 fn edit_of<'a>(kind: u32, section: NewSection<'a>, kept: &'a [&'a str]) -> Option<Edit<'a>>
-    requires { texts kept.now ≡ section.name.now ∷ [] }
+    requires { names_as_bytes kept.now ≡ section.name.now ∷ [] }
     ensures { IsEditOf kind section.entry.name.now section.entry.«data».now result }
 {
     match kind {
@@ -122,7 +122,7 @@ fn choice<'a>(
     section: NewSection<'a>,
     kept: &'a [&'a str],
 ) -> std::result::Result<Edit<'a>, EditStatus>
-    requires { texts kept.now ≡ section.name.now ∷ [] }
+    requires { names_as_bytes kept.now ≡ section.name.now ∷ [] }
     ensures { IsChoice kind section.entry.name.now section.entry.«data».now result }
 {
     let Some(edit) = edit_of(kind, section, kept) else {

@@ -1,6 +1,6 @@
 // Instructions of constant expressions.
 ghost use Rattle.std.specs.Prelude.{◌≡◌};
-ghost use Rattle.wasm_c_items.specs.Instructions.{indexed, instruction_from, opcode, plain_instruction, with_bits, with_count, with_heap, with_integer, with_vector};
+ghost use Rattle.wasm_c_items.specs.Instructions.{indexed, instruction_from, opcode, plain_instruction, with_bits, array_of_count, with_heap, with_integer, with_vector};
 ghost use Rattle.wasm_items.specs.Instructions.{instruction_at};
 ghost use Rattle.wasm_items.specs.declared.instructions.ConstInstruction.{ConstInstruction};
 
@@ -105,7 +105,7 @@ fn null(consumed: usize, heap: HeapType) -> PlainInstruction
 
 // An array of this many elements.
 fn array(consumed: usize, index: u32, count: u32) -> PlainInstruction
-    ensures { result ≡ with_count consumed index count }
+    ensures { result ≡ array_of_count consumed index count }
 {
     PlainInstruction {
         count,

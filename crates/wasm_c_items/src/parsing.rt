@@ -1,7 +1,7 @@
 // A parser for programs in C: each call takes plain numbers and bytes of the caller, and none has a condition.
 ghost use Rattle.std.specs.Prelude.{◌≡◌};
 ghost use Rattle.wasm_frames.specs.ParserState.{initial_state};
-ghost use Rattle.wasm_frames.specs.Answer.{content_of};
+ghost use Rattle.wasm_frames.specs.Answer.{answer_in};
 ghost use Rattle.wasm_c_items.specs.Events.{ParsesPlain};
 ghost use Rattle.wasm_frames.specs.Stored.{parser_of};
 ghost use Rattle.wasm_c_items.specs.Texts.{Says, SaysFault};
@@ -78,7 +78,7 @@ pub fn write_next_fault(parser: &StoredParser, bytes: &[u8], is_all: bool, out: 
 }
 
 fn write_fault(answer: NextFrame<'_>, out: &mut [u8]) -> usize
-    ensures { Says (content_of answer.entry) out.old result out.new }
+    ensures { Says (answer_in answer.entry) out.old result out.new }
 {
     match answer {
         NextFrame::Fault(error) => write_text(error.message().as_bytes(), out),

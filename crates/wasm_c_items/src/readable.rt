@@ -3,7 +3,7 @@ ghost use Rattle.std.specs.Prelude.{◌≡◌, ℕ, Err};
 ghost use Rattle.wasm_base.specs.FaultAt.{fault_at};
 ghost use Rattle.wasm_base.specs.Outcome.{Outcome, GivesBy};
 ghost use Rattle.wasm_base.specs.Window.{Place, place};
-ghost use Rattle.wasm_c_items.specs.Readable.{item_over, plainly};
+ghost use Rattle.wasm_c_items.specs.Readable.{item_over, read_plainly};
 
 use crate::spans::{out_of_range, reader_over};
 use wasm_parser::{BinaryReader, Error, Result, fits};
@@ -25,7 +25,7 @@ pub trait Readable: Copy {
     /// Reads an item.
     fn read(self, reader: &mut BinaryReader<'_>, from: u64) -> Result<Self::Plain>
         ensures { GivesBy (λ item. item) result reader.old reader.new
-            (plainly (plain self from) (reading self)) };
+            (read_plainly (plain self from) (reading self)) };
 
     /// The struct of a fault: all other fields are 0.
     fn refused(self, error: Error) -> Self::Plain

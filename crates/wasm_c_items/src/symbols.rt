@@ -3,7 +3,7 @@ ghost use Rattle.std.specs.Prelude.{ℕ, ◌≡◌};
 ghost use Rattle.wasm_base.specs.Outcome.{GivesBy};
 ghost use Rattle.wasm_base.specs.Window.{KeepsWindow, place};
 ghost use Rattle.wasm_c_items.specs.Spans.{text_after};
-ghost use Rattle.wasm_c_items.specs.Symbols.{flags_at, indexed_symbol, linking_version_at, name_parts, named_symbol, placed_symbol, plain_symbol, symbol_from};
+ghost use Rattle.wasm_c_items.specs.Symbols.{symbol_flags_at, indexed_symbol, linking_version_at, symbol_name_parts, named_symbol, placed_symbol, plain_symbol, symbol_from};
 ghost use Rattle.wasm_c_items.specs.Numbers.{plain_number};
 ghost use Rattle.wasm_custom.specs.Flags.{symbol_bits};
 ghost use Rattle.wasm_custom.specs.Linking.{SymbolParts, symbol_at, symbol_parts, text_if_any};
@@ -100,7 +100,7 @@ impl Readable for LinkingVersions {
 
 // Whether there is a name, and its span as the last part of a symbol.
 fn name_parts(from: u64, to: u64, name: Option<&str>) -> (u32, PlainSpan)
-    ensures { result ≡ name_parts from to (text_if_any name.entry (λ text. text.now)) }
+    ensures { result ≡ symbol_name_parts from to (text_if_any name.entry (λ text. text.now)) }
 {
     match name {
         Some(name) => (1, span_before(from, to, name.len())),
@@ -131,7 +131,7 @@ fn indexed(
 
 // Where the name of a data symbol is, after its kind and its flags.
 fn name_after_flags(from: u64, mut reader: BinaryReader<'_>, size: usize) -> PlainSpan
-    ensures { result ≡ text_after from size (flags_at (place reader.entry)) }
+    ensures { result ≡ text_after from size (symbol_flags_at (place reader.entry)) }
 {
     match reader.read_u8() {
         Ok(_) => text_after_number(from, reader, size),

@@ -6,7 +6,7 @@ use Rattle.wasm_io.specs.declared.digits.Base.TheVariants.{Decimal, Hexadecimal}
 use Rattle.wasm_output.specs.declared.tree.Style.{Style}
 use Rattle.wasm_output.specs.declared.tree.Style.TheVariants.{Lines, Objects}
 use Rattle.wasm_commands.specs.ArgumentLists.{Read, has_option, last_value}
-use Rattle.wasm_commands.specs.Messages.{command_text, complaint_text}
+use Rattle.wasm_commands.specs.Messages.{command_text, complaint_text, wrong_value_text}
 use Rattle.wasm_commands.specs.declared.dump.format.Format.{Format}
 use Rattle.wasm_commands.specs.declared.messages.Complaint.{Complaint}
 use Rattle.wasm_commands.specs.declared.options.Flag.TheVariants as option
@@ -32,8 +32,7 @@ or_text (Ok x) = Ok x
 or_text (Err e) = Err (complaint_text e)
 
 abbrev pub wrong_color : Verb → (when : List ℕ) → List ℕ
-wrong_color verb when = command_text verb ++ (codes ": wrong value '" ++ (when
-    ++ (codes "' of option '" ++ (codes "--color" ++ codes "'\n"))))
+wrong_color verb when = wrong_value_text verb (codes "--color") when
 
 -- whether `--color` with a value asks for colors
 abbrev pub colors_when : Verb → (when : List ℕ) → (is_terminal : Bool) → Result Bool (List ℕ)

@@ -1,10 +1,12 @@
 -- What the program says on standard error.
-use Rattle.std.specs.Prelude.{◌≡◌, ℕ, List, [], ◌++◌, codes, bytes_eq, Option, Some, None, Result, Ok, Err}
+use Rattle.std.specs.Prelude.{◌≡◌, ℕ, Bool, true, false, ◌&&◌, ◌||◌, List, [], ◌∷◌, ◌++◌, codes, bytes_eq, nat_le}
+use Rattle.std.specs.Prelude.{Option, Some, None, Result, Ok, Err, is_some}
 use Rattle.std.specs.Prelude.{if◌then◌else◌}
 use Rattle.std.specs.declared.io.ErrorKind.TheVariants.{Other}
 use Rattle.wasm_base.specs.FaultAt.{FaultAt, fault_at}
 use Rattle.wasm_base.specs.Message.{message_of, number_text}
 use Rattle.wasm_base.specs.declared.error.Error.{Error}
+use Rattle.wasm_grammar.specs.Ids.{id_named}
 use Rattle.wasm_io.specs.Calls.{Device}
 use Rattle.wasm_io.specs.Offsets.{offset_text}
 use Rattle.wasm_io.specs.declared.digits.Base.TheVariants.{Hexadecimal}
@@ -73,20 +75,58 @@ command_text verb.Extract = codes "pulleynavy extract"
 command_text verb.Add = codes "pulleynavy add"
 command_text verb.Producers = codes "pulleynavy producers"
 
+-- the values that an option takes
+abbrev pub values_of : (option : List ℕ) → List ℕ
+values_of option =
+    if bytes_eq option (codes "--color") then codes "always, never or auto"
+    else if bytes_eq option (codes "--section") then
+    codes "an id, a name of the standard, as import, or the name of a custom section"
+    else if bytes_eq option (codes "--keep") then codes "the name of a custom section"
+    else if bytes_eq option (codes "--only") then codes "the name of a custom section"
+    else if bytes_eq option (codes "--index") then codes "a number from 1 on"
+    else if bytes_eq option (codes "--set") then
+    codes "FIELD=NAME[:VERSION], and FIELD is language, processed-by or sdk"
+    else codes "the name of a file"
+
+-- whether the first byte is a decimal digit, as that of an id is
+abbrev pub begins_with_digit : List ℕ → Bool
+begins_with_digit [] = false
+begins_with_digit (b ∷ more) = nat_le 48 b && nat_le b 57
+
+abbrev pub hint_unless : (is_known : Bool) → List ℕ
+hint_unless true = []
+hint_unless false = codes "; the standard's are custom, type, import, function, table, memory, tag, global, export,"
+    ++ codes " start, element, datacount, code and data"
+
+-- what follows a word that chose no section: which names the standard has, unless it is one of these or a number
+abbrev pub hint_for : Verb → (word : List ℕ) → List ℕ
+hint_for verb.Dump word = hint_unless (is_some (id_named word) || begins_with_digit word)
+hint_for other word = []
+
 -- a section that a command did not find in a file
 abbrev pub missing_text : Verb → (name word : List ℕ) → List ℕ
 missing_text verb name word = command_text verb ++ (codes ": " ++ (name_shown name ++ (codes ": no section '" ++ (word
-    ++ codes "'\n"))))
+    ++ (codes "'" ++ (hint_for verb word ++ codes "\n"))))))
 
 -- what is wrong with a word, and where to look
 abbrev pub about_word : Verb → (before word after : List ℕ) → List ℕ
 about_word verb before word after = command_text verb ++ (codes ": " ++ (before ++ (word ++ (after
     ++ (codes "\nTry '" ++ (command_text verb ++ codes " --help'.\n"))))))
 
+-- an option that needs a value: which ones it takes
+abbrev pub no_value_text : Verb → (option : List ℕ) → List ℕ
+no_value_text verb option =
+    about_word verb (codes "option '") option (codes "' needs a value: " ++ values_of option)
+
+-- a value that an option does not take: which ones it takes
+abbrev pub wrong_value_text : Verb → (option value : List ℕ) → List ℕ
+wrong_value_text verb option value = command_text verb ++ (codes ": wrong value '" ++ (value ++ (codes "' of option '"
+    ++ (option ++ (codes "': it takes " ++ (values_of option ++ codes "\n"))))))
+
 -- what is wrong with an option
 abbrev pub refusal_text : Verb → Refusal → List ℕ
 refusal_text verb (UnknownOption word) = about_word verb (codes "unknown option '") word.now (codes "'")
-refusal_text verb (NoValue word) = about_word verb (codes "option '") word.now (codes "' needs a value")
+refusal_text verb (NoValue word) = no_value_text verb word.now
 refusal_text verb (UnwantedValue word) = about_word verb (codes "option '") word.now (codes "' takes no value")
 
 abbrev pub unknown_command_text : (word : List ℕ) → List ℕ
@@ -112,8 +152,7 @@ abbrev pub complaint_text : Complaint → List ℕ
 complaint_text (complaint.Argument verb refusal) = refusal_text verb refusal
 complaint_text (complaint.Excluded verb first second) = command_text verb ++ (codes ": options '" ++ (first.now
     ++ (codes "' and '" ++ (second.now ++ codes "' exclude each other\n"))))
-complaint_text (complaint.WrongValue verb option value) = command_text verb ++ (codes ": wrong value '" ++ (value.now
-    ++ (codes "' of option '" ++ (option.now ++ codes "'\n"))))
+complaint_text (complaint.WrongValue verb option value) = wrong_value_text verb option.now value.now
 complaint_text (complaint.Extra verb word) = about_word verb (codes "unexpected argument '") word.now (codes "'")
 complaint_text (complaint.Few verb words) = about_word verb (codes "needs ") words.now []
 complaint_text (complaint.NoData word) = about_word verb.Add (codes "'") word.now (codes "' is not NAME=DATA")

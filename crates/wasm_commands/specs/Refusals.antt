@@ -1,13 +1,13 @@
 -- Which arguments of the program are refused before anything is read, and what is said of them.
 use Rattle.std.specs.Prelude.{ℕ, Bool, ◌||◌, List, codes, bytes_eq, if◌then◌else◌}
 use Rattle.wasm_commands.specs.ArgumentLists.{Wrong, unknown_option, no_value, unwanted_value, is_option}
-use Rattle.wasm_commands.specs.Messages.{about_word, unknown_command_text, unknown_option_text}
+use Rattle.wasm_commands.specs.Messages.{about_word, no_value_text, unknown_command_text, unknown_option_text}
 use Rattle.wasm_commands.specs.declared.options.Verb.{Verb}
 
 -- what is said of the arguments of a command, if one is wrong
 abbrev pub wrong_text : Verb → Wrong → List ℕ
 wrong_text verb (unknown_option word) = about_word verb (codes "unknown option '") word (codes "'")
-wrong_text verb (no_value word) = about_word verb (codes "option '") word (codes "' needs a value")
+wrong_text verb (no_value word) = no_value_text verb word
 wrong_text verb (unwanted_value word) = about_word verb (codes "option '") word (codes "' takes no value")
 
 abbrev pub asks_for_help : (word : List ℕ) → Bool

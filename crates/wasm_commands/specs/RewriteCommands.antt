@@ -25,7 +25,7 @@ use Rattle.wasm_edits.specs.declared.fates.Keep.{Keep}
 use Rattle.wasm_commands.specs.ArgumentLists.{Read, has_option, is_equals, last_value, operands_in, values_in}
 use Rattle.wasm_commands.specs.Finding.{FindsSection}
 use Rattle.wasm_commands.specs.FirstNamed.{FindsFirst, ReplacesFirst}
-use Rattle.wasm_commands.specs.Messages.{about_word, command_text, input_twice_text, missing_text}
+use Rattle.wasm_commands.specs.Messages.{about_word, command_text, input_twice_text, missing_text, wrong_value_text}
 use Rattle.wasm_commands.specs.Parsing.{texts}
 use Rattle.wasm_commands.specs.Rewrites.{Changes, EditsTo, EndsRun, Finds, Gave, Holds, OnlyWrites, Opens, WritesTo}
 use Rattle.wasm_commands.specs.Rewrites.{target_in}
@@ -43,11 +43,6 @@ use Rattle.wasm_commands.specs.declared.system.System.{Ghosts as SystemOf}
 -- an argument after those that a command takes
 abbrev pub extra_text : Verb → (word : List ℕ) → List ℕ
 extra_text verb word = about_word verb (codes "unexpected argument '") word (codes "'")
-
--- what is said of a wrong value of an option
-abbrev pub wrong_value_text : Verb → (option value : List ℕ) → List ℕ
-wrong_value_text verb option value = command_text verb ++ (codes ": wrong value '" ++ (value
-    ++ (codes "' of option '" ++ (option ++ codes "'\n"))))
 
 abbrev pub too_large_text : Verb → (name : List ℕ) → List ℕ
 too_large_text verb name = command_text verb ++ (codes ": section '" ++ (name ++ codes "' is too large\n"))

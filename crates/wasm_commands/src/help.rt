@@ -40,9 +40,10 @@ Writes a line for each part of each FILE: the header, each section with its
 offsets and its number of items, each function body, and the end. A fault of
 the file is the last line, with its offset.
 
-Lines for sections end with their names in the standard, those for custom
-sections with their own names, in quotes. With several files, each listing
-follows the name of its file.
+Lines for sections have their names in the standard and their sizes, those for
+function bodies their sizes. Those for custom sections end with their own
+names, in quotes. With several files, each listing follows the name of its
+file.
 
 Options:
   --json         Each line is a JSON object, for programs. Its last member,
@@ -81,12 +82,14 @@ follows. A fault of the file itself is the last line. Function bodies are
 ranges of bytes.
 
 Options:
-  --names         Each file is read twice, and items are shown with their names
-                  from the custom sections called 'name', or else from the
-                  symbol table of an object file. Only regular files can be
-                  read twice: standard input and pipes are refused.
+  --names         Each file is read twice, and items, and what refers to them,
+                  are shown with their names from the custom sections called
+                  'name', or else from the symbol table of an object file. Only
+                  regular files can be read twice: standard input and pipes are
+                  refused.
   --bytes         Each line follows the bytes that it was read from, in
-                  hexadecimal.
+                  hexadecimal. In the line itself only the first 16 of raw
+                  bytes are shown, and '..' if there are more.
   --hex           Offsets are hexadecimal, as 0x1f. All other numbers stay
                   decimal.
   --color[=WHEN]  The text has colors for a terminal: 'always', which is also
@@ -96,9 +99,11 @@ Options:
                   file, is the name of the file. Excludes --bytes, --hex and
                   --color.
   --section ID|NAME
-                  Only sections with this id, with this name in the standard,
-                  or custom sections with this name are shown. The option may
-                  be repeated. If a file has none of them, a warning says so.
+                  Only sections with this id, with this name in the standard
+                  (custom, type, import, function, table, memory, tag, global,
+                  export, start, element, datacount, code, data), or custom
+                  sections with this name are shown. The option may be
+                  repeated. If a file has none of them, a warning says so.
   --no-progress   Shows no progress. For files above 64 MiB it is otherwise a
                   line on standard error, if that is a terminal.
   --              Ends the options: all arguments after it are files.

@@ -2,7 +2,7 @@
 ghost use Rattle.std.specs.Prelude.{◌≡◌, Some, codes};
 ghost use Rattle.wasm_base.specs.Message.{number_text};
 ghost use Rattle.wasm_commands.specs.Messages.{Reports, StopsAt, command_text, complaint_text, failure_text, fault_line, file_text, missing_text, name_shown, reason_if_any, refusal_text};
-ghost use Rattle.wasm_commands.specs.Messages.{about_word};
+ghost use Rattle.wasm_commands.specs.Messages.{about_word, begins_with_digit, hint_for, hint_unless, no_value_text, values_of, wrong_value_text};
 ghost use Rattle.wasm_commands.specs.Reasons.{reason_of};
 ghost use Rattle.wasm_console.specs.Endings.{status_for};
 ghost use Rattle.wasm_io.specs.Calls.{device_of};
@@ -13,6 +13,7 @@ use crate::options::Verb;
 use crate::reasons::{Cause, words_if_any};
 use wasm_base::Error;
 use wasm_console::{say, status_of};
+use wasm_grammar::section_named;
 use wasm_io::{Base, ListError, Sink, write_number, write_offset, write_word};
 use wasm_streams::Ended;
 
@@ -158,6 +159,34 @@ fn say_number<E: Sink>(name: &str, offset: &[u8], message: &[u8], number: u64, e
     say_fault(name, offset, message, &bytes[..end], errors);
 }
 
+// Returns whether a word begins as an id does.
+fn begins_with_digit(word: &str) -> bool
+    ensures { result ≡ begins_with_digit word.now }
+{
+    matches!(word.as_bytes(), [b'0'..=b'9', ..])
+}
+
+// Returns the names of sections in the standard, with words before them, for words that are none.
+fn hint_unless<'a>(is_known: bool) -> &'a [u8]
+    ensures { result.now ≡ hint_unless is_known }
+{
+    if is_known {
+        b""
+    } else {
+        b"; the standard's are custom, type, import, function, table, memory, tag, global, export, start, element, datacount, code and data"
+    }
+}
+
+// Returns what follows a word that chose no section.
+fn hint_for<'a>(verb: Verb, word: &str) -> &'a [u8]
+    ensures { result.now ≡ hint_for verb word.now }
+{
+    match verb {
+        Verb::Dump => hint_unless(section_named(word).is_some() || begins_with_digit(word)),
+        _ => b"",
+    }
+}
+
 /// Says that a section was not found in a file.
 pub(crate) fn warn_of_missing<E: Sink>(verb: Verb, name: &str, word: &str, errors: &mut E)
     ensures says { Says (device_of E.taken E.has_failed errors.old errors.new)
@@ -171,7 +200,9 @@ pub(crate) fn warn_of_missing<E: Sink>(verb: Verb, name: &str, word: &str, error
             shown_name(name).as_bytes(),
             b": no section '",
             word.as_bytes(),
-            b"'\n",
+            b"'",
+            hint_for(verb, word),
+            b"\n",
         ],
     );
 }
@@ -268,6 +299,61 @@ fn complain_of<'a, E: Sink>(
     );
 }
 
+// Returns the values that an option takes.
+fn values_of<'a>(option: &str) -> &'a [u8]
+    ensures { result.now ≡ values_of option.now }
+{
+    match option {
+        "--color" => b"always, never or auto",
+        "--section" => b"an id, a name of the standard, as import, or the name of a custom section",
+        "--keep" | "--only" => b"the name of a custom section",
+        "--index" => b"a number from 1 on",
+        "--set" => b"FIELD=NAME[:VERSION], and FIELD is language, processed-by or sdk",
+        _ => b"the name of a file",
+    }
+}
+
+// Says that an option needs a value, and which ones it takes.
+fn complain_of_no_value<E: Sink>(verb: Verb, option: &str, errors: &mut E)
+    ensures says { Says (device_of E.taken E.has_failed errors.old errors.new)
+        (no_value_text verb option.now) }
+{
+    let words = command_words(verb);
+    say(
+        errors,
+        &[
+            words,
+            b": option '".as_slice(),
+            option.as_bytes(),
+            b"' needs a value: ",
+            values_of(option),
+            b"\nTry '",
+            words,
+            b" --help'.\n",
+        ],
+    );
+}
+
+// Says that an option does not take a value, and which ones it takes.
+fn complain_of_value<E: Sink>(verb: Verb, option: &str, value: &str, errors: &mut E)
+    ensures says { Says (device_of E.taken E.has_failed errors.old errors.new)
+        (wrong_value_text verb option.now value.now) }
+{
+    say(
+        errors,
+        &[
+            command_words(verb),
+            b": wrong value '".as_slice(),
+            value.as_bytes(),
+            b"' of option '",
+            option.as_bytes(),
+            b"': it takes ",
+            values_of(option),
+            b"\n",
+        ],
+    );
+}
+
 // Says what is wrong with an option.
 fn complain_of_option<E: Sink>(verb: Verb, refusal: Refusal<'_>, errors: &mut E)
     ensures says { Says (device_of E.taken E.has_failed errors.old errors.new)
@@ -275,7 +361,7 @@ fn complain_of_option<E: Sink>(verb: Verb, refusal: Refusal<'_>, errors: &mut E)
 {
     match refusal {
         Refusal::UnknownOption(word) => complain_of(verb, b"unknown option '", word, b"'", errors),
-        Refusal::NoValue(word) => complain_of(verb, b"option '", word, b"' needs a value", errors),
+        Refusal::NoValue(word) => complain_of_no_value(verb, word, errors),
         Refusal::UnwantedValue(word) => {
             complain_of(verb, b"option '", word, b"' takes no value", errors);
         }
@@ -303,17 +389,9 @@ pub(crate) fn complain<E: Sink>(complaint: Complaint<'_>, errors: &mut E) -> u8
                 b"' exclude each other\n",
             ],
         ),
-        Complaint::WrongValue(verb, option, value) => say(
-            errors,
-            &[
-                command_words(verb),
-                b": wrong value '".as_slice(),
-                value.as_bytes(),
-                b"' of option '",
-                option.as_bytes(),
-                b"'\n",
-            ],
-        ),
+        Complaint::WrongValue(verb, option, value) => {
+            complain_of_value(verb, option, value, errors);
+        }
         Complaint::Extra(verb, word) => {
             complain_of(verb, b"unexpected argument '", word, b"'", errors);
         }

@@ -1,6 +1,6 @@
 -- How a run of a program ends, and what it says.
-use Rattle.std.specs.Prelude.{◌≡◌, ◌⊎◌, ℕ, ◌<◌, ◌≤◌, Bool, true, List, take, Result, Ok, Err}
-use Rattle.std.specs.Io.KnownBytes.{Appends, Keeps}
+use Rattle.std.specs.Prelude.{◌≡◌, ◌⊎◌, ℕ, ◌<◌, ◌≤◌, Bool, true, List, Result, Ok, Err}
+use Rattle.std.specs.Io.KnownBytes.{Keeps}
 use Rattle.wasm_io.specs.Calls.{Device}
 use Rattle.wasm_streams.specs.declared.turns.Ended.{Ended}
 use Rattle.wasm_streams.specs.declared.turns.Ended.TheVariants.{End, Fault}
@@ -10,7 +10,7 @@ use Rattle.wasm_console.specs.Devices.{IsUntouched}
 use Rattle.wasm_io.specs.Messages.{Says, complaint_of}
 
 -- | how a run ends: the exit status, what it prints, and what the output has forwarded; a run that refuses its
---   arguments, or cannot begin [`Reports`, `Finishes`, `RunsUsage`, `CannotBegin`]
+--   arguments, or cannot begin [`ReportsEnd`, `Finishes`, `RunsUsage`, `CannotBegin`]
 -- the exit status of a run that went along a stream
 abbrev pub status_for : Result Ended ListError → ℕ
 status_for (Ok End) = 0
@@ -18,9 +18,9 @@ status_for (Ok (Fault e)) = 1
 status_for (Err e) = 3
 
 -- the message of such a run: none, or why it failed
-abbrev pub Reports : Result Ended ListError → Device → Type 0
-Reports (Ok how) errors = IsUntouched errors
-Reports (Err e) errors = Says errors (complaint_of e)
+abbrev pub ReportsEnd : Result Ended ListError → Device → Type 0
+ReportsEnd (Ok how) errors = IsUntouched errors
+ReportsEnd (Err e) errors = Says errors (complaint_of e)
 
 -- a run that refused its arguments, saying how the program is used, and left its input and output alone
 pub record RunsUsage (usage : List ℕ) (input output errors : Device) (status : ℕ) : Type 0 where
@@ -41,21 +41,8 @@ pub record GivesUpAs (why : ListError) (errors : Device) (status : ℕ) : Type 0
   pub answers : status ≡ 3
   pub says : Says errors (complaint_of why)
 
--- All of these bytes were written, and nothing was said.
-pub record WritesAll (bytes : List ℕ) (output errors : Device) (status : ℕ) : Type 0 where
-  pub answers : status ≡ 0
-  pub written : Appends output.before output.after bytes
-  pub sink : output.has_failed ≡ output.had_failed
-  pub silent : IsUntouched errors
-
--- A prefix of them was written, since the output failed.
-pub record WritesSome (bytes : List ℕ) (output errors : Device) (status : ℕ) : Type 0 where
-  pub written : (n : ℕ) × Appends output.before output.after (take n bytes)
-  pub sink : output.has_failed ≡ true
-  pub gives_up : GivesUpAs Output errors status
-
 -- The output was flushed, there is no message, and the status stays.
-pub record Flushes (status : ℕ) (forwarded : Bool) (output errors : Device) (result : ℕ) : Type 0 where
+pub record FlushesOutput (status : ℕ) (forwarded : Bool) (output errors : Device) (result : ℕ) : Type 0 where
   pub answers : result ≡ status
   pub all : forwarded ≡ true
   pub sink : output.has_failed ≡ output.had_failed
@@ -76,5 +63,5 @@ pub record LeavesAlone (status : ℕ) (output errors : Device) (result : ℕ) : 
 -- The end of a run: after a status of 0 or 1 the output is flushed.
 pub record Finishes (status : ℕ) (forwarded : Bool) (output errors : Device) (result : ℕ) : Type 0 where
   pub keeps : Keeps output.before output.after
-  pub ended : status < 2 → Flushes status forwarded output errors result ⊎ FailsToFlush output errors result
+  pub ended : status < 2 → FlushesOutput status forwarded output errors result ⊎ FailsToFlush output errors result
   pub given_up : 2 ≤ status → LeavesAlone status output errors result

@@ -1,7 +1,7 @@
 -- What is shown of a part that was skipped, by its first fields, is what is shown of its event.
 use Rattle.wasm_dumper.proofs.Common.{◌≡◌, ℕ, Bool, true, false, List, [], ◌∷◌, ◌++◌, Some, None, Option, refl, sym, ap, subst, subst₂, ◌∙◌}
 use Rattle.wasm_dumper.proofs.Common.{list_any, if◌then◌else◌, nat_eq, import_id, Report, counted, Writing, Base, base_of, AddsFirst}
-use Rattle.wasm_dumper.proofs.Common.{numbered_line, is_chosen, after, no_counts, shows_items, ShowsItemsIf, Counts, Only}
+use Rattle.wasm_dumper.proofs.Common.{append_assoc, numbered_line, is_chosen, after, no_counts, shows_items, ShowsItemsIf, Counts, Only}
 use Rattle.std.proofs.Common.{Ok, Result, not, ◌&&◌, ◌||◌, bytes_eq, codes}
 use Rattle.std.specs.List.{starts_with}
 use Rattle.std.specs.String.{string_bytes}
@@ -9,7 +9,7 @@ use Rattle.wasm_base.specs.FaultAt.{FaultAt}
 use Rattle.wasm_base.specs.Window.{Window, place, whole_window}
 use Rattle.wasm_custom.specs.Known.{Known, read_by_name, reading_of, readings, relocations_in, unknown}
 use Rattle.wasm_dumper.specs.Checks.{custom_of, notes_if, shown_notes}
-use Rattle.wasm_dumper.specs.Chosen.{is_chosen_by}
+use Rattle.wasm_dumper.specs.Chosen.{is_chosen_by, outlined_text, section_words, size_text}
 use Rattle.wasm_dumper.specs.Dump.{ShowsReport}
 use Rattle.wasm_dumper.specs.Hiding.{ReportsOutline, after_hidden, has_imports, has_symbols, is_body_head, is_hidden, is_known, is_outlined}
 use Rattle.wasm_dumper.specs.Hiding.{outlined_part}
@@ -83,8 +83,14 @@ module _ (only : List Only) (has_bytes is_body : Bool) (r : Report) (o : Reports
 
 -- it is that of its first fields
 pub custom_line : (base : Base) (c : Counts) (text : List ℕ) (at : ℕ) (w : Window) (s : Skip) → skip_in (custom_section text at w) ≡ Some s
-    → numbered_line base c (custom_section text at w) ≡ skip_text base s ++ codes "\n"
-custom_line base c text at w s e = ap (λ (t : List ℕ). t ++ codes "\n") (skipped_text base (custom_section text at w) s e)
+    → numbered_line base c (custom_section text at w) ≡ outlined_text base s ++ codes "\n"
+custom_line base c text at w s e =
+    let size = λ (x : Skip). size_text (Some (record { start = x.from; end = x.to })) in
+    let same = ap (λ (x : Option Skip). skip_or s x) e in
+    ap (λ (t : List ℕ). t ++ (section_words (custom_section text at w) ++ codes "\n"))
+    (skipped_text base (custom_section text at w) s e)
+    ∙ (ap (λ (x : Skip). skip_text base s ++ (size x ++ codes "\n")) same
+    ∙ sym (append_assoc (skip_text base s) (size s) (codes "\n")))
 
 -- whatever its content is, its items have no numbers
 items_alike : (has_items : Bool) (c : Counts) (text : List ℕ) (at : ℕ) (v w : Window) (old new : Writing)
@@ -150,7 +156,7 @@ reported _ s text at e h = cc
 module _ (only : List Only) (c : Counts) (text : List ℕ) (at : ℕ) (s : Skip) (v w : Window)
     (e : skip_in (custom_section text at w) ≡ Some s) where
   shown_so : (has_bytes : Bool) (bytes : List ℕ) (old mid new : Writing) → is_outlined only has_bytes text ≡ true
-      → AddsFirst (skip_text (base_of old.style) s ++ codes "\n") old mid
+      → AddsFirst (outlined_text (base_of old.style) s ++ codes "\n") old mid
       → ShowsItemsIf (shows_items only) c (custom_section text at v) mid new
       → ShowsReport only has_bytes c (custom_section text at w) bytes old new
   shown_so true bytes old mid new o a b = cc
@@ -182,13 +188,13 @@ module _ (only : List Only) (has_bytes : Bool) (section : CustomOutline) (r : Re
   -- the report without data, whether items are shown, and the first fields, each as it was passed
   pub custom_shown : (empty : Report) → empty ≡ custom_section name section.data_offset v → (has_items : Bool)
       → has_items ≡ shows_items only → (s : Skip) → s ≡ outlined_part section → (c : Counts) (bytes : List ℕ) (old mid new : Writing)
-      → AddsFirst (skip_text (base_of old.style) s ++ codes "\n") old mid → ShowsItemsIf has_items c empty mid new
+      → AddsFirst (outlined_text (base_of old.style) s ++ codes "\n") old mid → ShowsItemsIf has_items c empty mid new
       → ShowsReport only has_bytes c r bytes old new
   custom_shown empty empty_is has_items items_are s is_part c bytes old mid new a b =
       let (w, is) = reported r (outlined_part section) name section.data_offset of_section refl in
       subst (λ (x : Report). ShowsReport only has_bytes c x bytes old new) (sym is)
       (shown_so only c name section.data_offset (outlined_part section) v w (sym (ap skip_in is) ∙ of_section) has_bytes bytes old mid new
-      o.2.0 (subst (λ (x : Skip). AddsFirst (skip_text (base_of old.style) x ++ codes "\n") old mid) is_part a)
+      o.2.0 (subst (λ (x : Skip). AddsFirst (outlined_text (base_of old.style) x ++ codes "\n") old mid) is_part a)
       (subst₂ (λ (x : Bool) (y : Report). ShowsItemsIf x c y mid new) items_are empty_is b))
 
   pub custom_counted : (c : Counts) → c ≡ after c r

@@ -1,18 +1,20 @@
 -- Which events a dump shows, and the line of each.
-use Rattle.std.specs.Prelude.{◌≡◌, option_map, ℕ, Bool, true, false, List, [], ◌++◌, Option, Some, None, nat_eq, not}
-use Rattle.std.specs.Prelude.{bytes_eq, codes, if◌then◌else◌}
+use Rattle.std.specs.Prelude.{◌≡◌, option_map, ℕ, Bool, true, false, List, [], ◌∷◌, ◌++◌, Option, Some, None, nat_eq}
+use Rattle.std.specs.Prelude.{not, bytes_eq, codes, decimal, ◌-◌, if◌then◌else◌}
 use Rattle.std.specs.List.{list_any}
+use Rattle.std.specs.declared.ops.Range.{Range}
 use Rattle.wasm_grammar.specs.Reading.{Report, counted, code_entry, custom_section, stream_end}
 use Rattle.wasm_grammar.specs.Ids.{code_id}
 use Rattle.wasm_grammar.specs.Ids.{name_of as section_name}
-use Rattle.wasm_grammar.specs.Sections.{section_of}
+use Rattle.wasm_grammar.specs.Sections.{section_of, window_range}
 use Rattle.wasm_frames.specs.SkipNext.{Skip, custom}
-use Rattle.wasm_lines.specs.Listing.{line_of, report_text}
+use Rattle.wasm_lines.specs.Listing.{line_of, report_text, skip_text}
 use Rattle.wasm_io.specs.declared.digits.Base.{Base}
 use Rattle.wasm_io.specs.declared.digits.Base.TheVariants.{Decimal}
 use Rattle.wasm_output.specs.Numbers.{blank_numbers}
 use Rattle.wasm_dumper.specs.Counting.{numbers_in_line}
 use Rattle.wasm_output.specs.Tree.{base_of}
+use Rattle.wasm_output.specs.declared.numbers.Space.TheVariants.{Functions}
 use Rattle.wasm_dumper.specs.declared.counts.Counts.{Counts}
 use Rattle.wasm_output.specs.declared.tree.Style.{Style}
 use Rattle.wasm_dumper.specs.declared.events.CustomFields.{CustomFields}
@@ -49,9 +51,9 @@ is_chosen_with Parts section name = true
 is_chosen_with (Id id) section name = is_id id section
 is_chosen_with (Name text) section name = is_name text.now name
 
--- | which events a dump shows, by one choice and by several; the line of each: its text in a listing, and the name of
---   its section [`is_chosen`, `chosen_line`, `shown_line`, `numbered_line`, `BeginAlike`] <Modules, Sections (the ids
---   and names); this project>
+-- | which events a dump shows, by one choice and by several; the line of each: its text in a listing, and the name and
+--   size of its section [`is_chosen`, `chosen_line`, `shown_line`, `numbered_line`, `BeginAlike`] <Modules, Sections
+--   (the ids and names); this project>
 -- whether this choice alone chooses what is reported
 abbrev pub is_chosen_by : Only → Report → Bool
 is_chosen_by choice report = is_chosen_with choice (id_of report) (name_of report)
@@ -81,14 +83,35 @@ abbrev pub after_blank : Option (List ℕ) → List ℕ
 after_blank (Some name) = codes " " ++ name
 after_blank None = []
 
-abbrev pub section_words : Report → List ℕ
-section_words report = after_blank (counted_name report)
+-- the offsets of a section's content, or of a body
+abbrev pub range_of : Report → Option (Range ℕ)
+range_of (code_entry window) = Some (window_range window)
+range_of other = option_map (λ s. s.1) (section_of other)
 
--- the line of what is reported: its text in a listing with offsets in this base, and then the name of the section
+-- how many bytes are in a range, as a field
+abbrev pub size_text : Option (Range ℕ) → List ℕ
+size_text (Some range) = codes " size=" ++ decimal (range.end - range.start)
+size_text None = []
+
+-- what a dump adds to a line of a listing: the name of the section, and how many bytes it has, or a body has
+abbrev pub section_words : Report → List ℕ
+section_words report = after_blank (counted_name report) ++ size_text (range_of report)
+
+-- the text of a custom section by its first fields: that in a listing, and how many bytes it has
+abbrev pub outlined_text : Base → Skip → List ℕ
+outlined_text base s = skip_text base s ++ size_text (Some (record { start = s.from; end = s.to }))
+
+-- the line of what is reported: its text in a listing with offsets in this base, and then the name and the size of the
+-- section
 abbrev pub shown_line : Base → Report → List ℕ
 shown_line base report = report_text base report ++ (section_words report ++ codes "\n")
 
--- what comes after the text of what is reported: the name of the section, and the numbers of items
+-- how many bytes a body has, and the number of its function
+abbrev pub body_words : Range ℕ → (function : ℕ) → List ℕ
+body_words range function =
+    size_text (Some range) ++ blank_numbers (record { space = Functions; index = function } ∷ []) []
+
+-- what comes after the text of what is reported: the name and the size of the section, and the numbers of items
 abbrev pub end_text : Counts → Report → List ℕ
 end_text counts report = section_words report ++ blank_numbers (numbers_in_line counts report) []
 
@@ -106,8 +129,8 @@ abbrev pub chosen_line : Style → List Only → Report → List ℕ
 chosen_line style only report = if is_chosen only report then shown_line (base_of style) report else []
 
 -- The lines of a listing and of a dump begin with the same text, but for the base of its offsets, which is decimal in a
--- listing. A listing's has nothing after it; a dump's the name of the section, and then the numbers of items that it
--- shows.
+-- listing. A listing's has nothing after it; a dump's the name and the size of the section, and then the numbers of
+-- items that it shows.
 abbrev pub BeginAlike : Report → Type 0
 BeginAlike report = (line_of report ≡ report_text Decimal report ++ codes "\n")
     × ((base : Base) → shown_line base report ≡ report_text base report ++ (section_words report ++ codes "\n"))

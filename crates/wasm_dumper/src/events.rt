@@ -4,13 +4,13 @@ ghost use Rattle.std.specs.Prelude.{◌≡◌, ◌≤◌, ◌+◌, ◌++◌, cod
 ghost use Rattle.wasm_base.specs.FaultAt.{fault_at};
 ghost use Rattle.wasm_base.specs.Window.{place};
 ghost use Rattle.wasm_dumper.specs.Checks.{report_notes};
-ghost use Rattle.wasm_dumper.specs.Chosen.{after_blank, counted_name as name_counted, end_text, fields_part, id_of as id_reported, is_chosen, is_chosen_by, is_chosen_with, is_parts, name_of as name_reported, numbered_line, shows_items as items_are_shown};
+ghost use Rattle.wasm_dumper.specs.Chosen.{after_blank, body_words, counted_name as name_counted, end_text, fields_part, id_of as id_reported, is_chosen, is_chosen_by, is_chosen_with, is_parts, name_of as name_reported, numbered_line, outlined_text, range_of as range_reported, section_words, shows_items as items_are_shown, size_text};
 ghost use Rattle.wasm_grammar.specs.Content.{fault};
 ghost use Rattle.wasm_grammar.specs.Ids.{name_of};
 ghost use Rattle.wasm_grammar.specs.Reading.{stream_end};
 ghost use Rattle.wasm_frames.specs.Frame.{unread};
-ghost use Rattle.wasm_frames.specs.SkipNext.{custom, skip_is, windowed};
-ghost use Rattle.wasm_lines.specs.Listing.{line_in, skip_text};
+ghost use Rattle.wasm_frames.specs.SkipNext.{custom, windowed};
+ghost use Rattle.wasm_lines.specs.Listing.{line_in};
 ghost use Rattle.wasm_parser.specs.ParseAnswer.{report_of};
 ghost use Rattle.wasm_output.specs.Found.{Finds, FindsNone};
 ghost use Rattle.wasm_output.specs.Tree.{Adds, AddsFirst, base_of, has_line_feed};
@@ -22,11 +22,11 @@ use std::ops::Range;
 use wasm_base::Error;
 use wasm_custom::CustomSectionReader;
 use wasm_grammar::{CODE_SECTION, CUSTOM_SECTION, section_name};
-use wasm_io::{Base, ShortText, write_word};
+use wasm_io::{Base, ShortText, write_number, write_word};
 use wasm_items::FunctionBody;
-use wasm_lines::{FaultLine, SkippedLine, encoding_name};
+use wasm_lines::{FaultLine, encoding_name, write_custom};
 use wasm_output::{Space, Style, Tree, Within, write_item};
-use wasm_parser::{Encoding, PartHead, Payload, SkippedPart};
+use wasm_parser::{Encoding, Payload};
 
 /// A choice of events for a dump.
 ///
@@ -37,7 +37,7 @@ use wasm_parser::{Encoding, PartHead, Payload, SkippedPart};
 /// let mut input = SliceSource::new(b"\0asm\x01\0\0\0\x01\x01\0\x02\x01\0");
 /// let mut out = TextLines::new(alloc, BoundedSink::new(alloc, 1000)?);
 /// let ended = dump(alloc, shown, &mut input, &mut out, 4096);
-/// let wanted = b"section 2 13 14 0 import\nend 14\n";
+/// let wanted = b"section 2 13 14 0 import size=1\nend 14\n";
 /// assert_eq!(rt; out.into_output().written(), wanted.as_slice());
 /// assert_eq!(rt; ended, Ok(Ended::End));
 /// ```
@@ -194,19 +194,73 @@ fn write_name(bytes: &mut [u8], at: usize, name: Option<&'static str>) -> usize
     }
 }
 
-// Writes what a dump adds to the line of a listing: the name of a section, or the number of the function of a body.
+// Returns the offsets of a section's content, or of a body.
+#[inline(always)]
+fn range_of(payload: &Payload<'_>) -> Option<Range<u64>>
+    ensures { result ≡ range_reported (report_of payload.now) }
+{
+    match payload {
+        Payload::CodeSectionEntry(body) => Some(body.range()),
+        _ => match payload.as_section() {
+            Some((_, range)) => Some(range),
+            None => None,
+        },
+    }
+}
+
+// Writes how many bytes a range has, if there is one.
+#[inline(always)]
+fn write_size(bytes: &mut [u8], at: usize, range: Option<Range<u64>>) -> usize
+    requires room { at + 26 ≤ length bytes.old }
+    ensures short { result ≤ at + 26 }
+    ensures written { take result bytes.new ≡ take at bytes.old ++ size_text range }
+{
+    match range {
+        Some(range) => {
+            let at = write_word(bytes, at, " size=");
+            write_number(bytes, at, range.end.saturating_sub(range.start))
+        }
+        None => at,
+    }
+}
+
+// Writes the name of a section and its size, or the size of a body.
+#[inline(always)]
+fn write_section_words(bytes: &mut [u8], at: usize, payload: &Payload<'_>) -> usize
+    requires { at + 36 ≤ length bytes.old }
+    ensures short { result ≤ at + 36 }
+    ensures written { take result bytes.new ≡ take at bytes.old
+        ++ section_words (report_of payload.now) }
+{
+    let at = write_name(bytes, at, counted_name(payload));
+    write_size(bytes, at, range_of(payload))
+}
+
+// Writes the size of a body, and the number of its function.
+#[inline(always)]
+fn write_body_words(bytes: &mut [u8], at: usize, range: Range<u64>, function: u64) -> usize
+    requires { at + 55 ≤ length bytes.old }
+    ensures short { result ≤ at + 55 }
+    ensures written { take result bytes.new ≡ take at bytes.old ++ body_words range function }
+{
+    let at = write_size(bytes, at, Some(range));
+    let at = write_word(bytes, at, " ");
+    write_item(bytes, at, Space::Functions, function)
+}
+
+// Writes what a dump adds to the line of a listing.
+#[inline(always)]
 fn write_end(bytes: &mut [u8], at: usize, counts: &Counts, payload: &Payload<'_>) -> usize
-    requires { at + 29 ≤ length bytes.old }
-    ensures short { result ≤ at + 29 }
+    requires { at + 59 ≤ length bytes.old }
+    ensures short { result ≤ at + 59 }
     ensures written { take result bytes.new ≡ take at bytes.old
         ++ end_text counts.now (report_of payload.now) }
 {
     match payload {
-        Payload::CodeSectionEntry(_) => {
-            let at = write_word(bytes, at, " ");
-            write_item(bytes, at, Space::Functions, counts.bodies)
+        Payload::CodeSectionEntry(body) => {
+            write_body_words(bytes, at, body.range(), counts.bodies)
         }
-        _ => write_name(bytes, at, counted_name(payload)),
+        _ => write_section_words(bytes, at, payload),
     }
 }
 
@@ -289,7 +343,10 @@ fn section_fields<O: Tree>(payload: &Payload<'_>, out: &mut O)
     ensures { Adds (O.writing out.old) (O.writing out.new) }
 {
     match payload {
-        Payload::StartSection { func, .. } => out.number("func", u64::from(*func)),
+        Payload::StartSection { func, .. } => {
+            out.number("func", u64::from(*func));
+            out.item_name(Space::Functions, u64::from(*func));
+        }
         Payload::CodeSectionStart { size, .. } => out.number("size", u64::from(*size)),
         _ => {}
     }
@@ -347,10 +404,11 @@ fn fault_object<O: Tree>(error: &Error, out: &mut O)
     }
 }
 
-// Returns the index of the function of a body.
+// Returns the index of the function of a body, or of the function that the start section names.
 fn function_of(counts: &Counts, payload: &Payload<'_>) -> Option<u64> {
     match payload {
         Payload::CodeSectionEntry(_) => Some(counts.bodies),
+        Payload::StartSection { func, .. } => Some(u64::from(*func)),
         _ => None,
     }
 }
@@ -382,16 +440,22 @@ fn fields_of<'a>(section: &CustomSectionReader<'a>) -> CustomFields<'a>
     }
 }
 
-// Returns a custom section by its first fields.
-fn part_of<'a>(fields: CustomFields<'a>) -> SkippedPart<'a>
-    ensures { skip_is result ≡ fields_part fields.entry }
-{
-    SkippedPart {
-        range: fields.start..fields.end,
-        head: PartHead::Custom {
-            name: fields.name,
-            data_offset: fields.data_offset,
-        },
+// The line of a custom section, without its line feed and without its name.
+#[derive(Clone, Copy)]
+struct CustomLine<'a> {
+    base: Base,
+    fields: CustomFields<'a>,
+}
+
+impl ShortText for CustomLine<'_> {
+    ghost use Rattle.wasm_dumper.specs.Chosen.{fields_part, outlined_text};
+
+    ghost text = { λ line. outlined_text line.base (fields_part line.fields) };
+
+    fn write_at(&self, bytes: &mut [u8], at: usize) -> usize {
+        let range = self.fields.start..self.fields.end;
+        let at = write_custom(bytes, at, self.base, &range, self.fields.data_offset);
+        write_size(bytes, at, Some(range))
     }
 }
 
@@ -409,35 +473,14 @@ fn custom_object<O: Tree>(fields: CustomFields<'_>, out: &mut O)
     out.number("data_offset", fields.data_offset);
 }
 
-// Returns the name of a custom section, if no line below has it: items are not shown.
-fn name_in_line<'a>(only: &[Only<'_>], name: &'a str) -> Option<&'a str> {
-    if shows_items(only) { None } else { Some(name) }
-}
-
-// Writes a line of the first level, with a name in quotes if there is one.
-fn write_first<T: ShortText, O: Tree>(text: &T, name: Option<&str>, out: &mut O)
-    ensures adds { AddsFirst (T.text text.now ++ codes "\n") (O.writing out.old) (O.writing out.new) }
-    ensures found { FindsNone (O.found out.old) (O.found out.new) }
-{
-    match name {
-        Some(name) => out.first_named(text, name),
-        None => out.first_of_function(text, None),
-    }
-}
-
-/// Writes the line of a custom section, or its object. The line has its name, if items are not shown: else a line below has
-/// it.
-pub(crate) fn show_custom_event<O: Tree>(only: &[Only<'_>], fields: CustomFields<'_>, out: &mut O)
-    ensures adds { AddsFirst (skip_text (base_of (O.writing out.old).style) (fields_part fields.entry) ++ codes "\n")
+/// Writes the line of a custom section, with its name, or its object.
+pub(crate) fn show_custom_event<O: Tree>(fields: CustomFields<'_>, out: &mut O)
+    ensures adds { AddsFirst (outlined_text (base_of (O.writing out.old).style) (fields_part fields.entry) ++ codes "\n")
         (O.writing out.old) (O.writing out.new) }
     ensures found { FindsNone (O.found out.old) (O.found out.new) }
 {
     match out.style() {
-        Style::Lines(base) => {
-            let part = part_of(fields);
-            let line = SkippedLine { base, part: &part };
-            write_first(&line, name_in_line(only, fields.name), out);
-        }
+        Style::Lines(base) => out.first_named(&CustomLine { base, fields }, fields.name),
         Style::Objects => custom_object(fields, out),
     }
 }
@@ -463,19 +506,14 @@ fn show_other_event<O: Tree>(counts: &Counts, payload: &Payload<'_>, out: &mut O
 }
 
 /// Writes the line of an event, or its object. That of a body has the number and the name of its function, and that of a
-/// custom section its name, if items are not shown.
-pub(crate) fn show_event<O: Tree>(
-    only: &[Only<'_>],
-    counts: &Counts,
-    payload: &Payload<'_>,
-    out: &mut O,
-)
+/// custom section its name.
+pub(crate) fn show_event<O: Tree>(counts: &Counts, payload: &Payload<'_>, out: &mut O)
     ensures adds { AddsFirst (numbered_line (base_of (O.writing out.old).style) counts.now (report_of payload.now))
         (O.writing out.old) (O.writing out.new) }
     ensures found { FindsNone (O.found out.old) (O.found out.new) }
 {
     match payload {
-        Payload::CustomSection(section) => show_custom_event(only, fields_of(section), out),
+        Payload::CustomSection(section) => show_custom_event(fields_of(section), out),
         _ => show_other_event(counts, payload, out),
     }
 }

@@ -178,7 +178,7 @@ fn show_chosen<O: Tree>(
     if chooses(shown.only, payload) {
         show_bytes(alloc, shown.has_bytes, counts, part, payload, out);
         note_found(shown, payload);
-        show_event(shown.only, counts, payload, out);
+        show_event(counts, payload, out);
         show_payload_if(shows_items(shown.only), alloc, counts, payload, out);
     }
 }
@@ -220,7 +220,7 @@ fn show_outline<O: Tree>(
 {
     let payload = section.without_data();
     note_found(shown, &payload);
-    show_custom_event(shown.only, section.fields(), out);
+    show_custom_event(section.fields(), out);
     show_payload_if(shows_items(shown.only), alloc, counts, &payload, out);
 }
 
@@ -350,9 +350,10 @@ impl<'a, O: Tree> Visitor<Global, O> for Dumper<'a> {
 
 /// Reads a stream from a source and writes its dump on a tree, and returns how the stream ended.
 ///
-/// Each chosen event has its line, as `list` writes it, with the name of its section or the number of its function.
-/// Under it each item has a line, indented by two blanks a level, with its number in its index space. Offsets are in
-/// bytes from the start of the stream. If bytes are shown, they are in rows before the lines that are read from them.
+/// Each chosen event has its line, as `list` writes it, with the name and the size of its section, or the size of a body
+/// and the number of its function. Under it each item has a line, indented by two blanks a level, with its number in its
+/// index space. Offsets and sizes are in bytes, offsets from the start of the stream. If bytes are shown, they are in
+/// rows before the lines that are read from them.
 /// On a tree of objects each line is a JSON object. On one that keeps faults alone, only malformed items have lines, and
 /// the fault at which the stream ends.
 ///
@@ -381,7 +382,7 @@ impl<'a, O: Tree> Visitor<Global, O> for Dumper<'a> {
 /// let mut out = TextLines::new(alloc, BoundedSink::new(alloc, 1000)?);
 /// let shown = Shown { only: &[Only::All], has_bytes: false, found: &[] };
 /// let ended = dump(alloc, shown, &mut input, &mut out, 4096);
-/// let wanted = b"version 0 8 1 module\nsection 7 10 15 1 export\n  11 name=\"f\" kind=func index=5\nend 15\n";
+/// let wanted = b"version 0 8 1 module\nsection 7 10 15 1 export size=5\n  11 name=\"f\" kind=func index=5\nend 15\n";
 /// assert_eq!(rt; out.into_output().written(), wanted.as_slice());
 /// assert_eq!(rt; ended, Ok(Ended::End));
 /// ```
@@ -399,8 +400,8 @@ pub fn dump<R: Source, O: Tree>(
     // Proved: what the clause of `list` says of the source holds for `dump` too [`DumpsByTree` (`Dumps`, `ListsBy`)]
     // Proved: in the style of lines, with a tree that has written nothing yet, its lines of the first level are the
     //   listing's, for the events that are chosen [the same (`chosen_line`, `IsOutlined`)]
-    // Proved: each of these has the name of its section, and then perhaps numbers and one name in quotes [the same
-    //   (`chosen_line`)]
+    // Proved: each of these has the name and the size of its section, or the size of a body, and then perhaps numbers
+    //   and one name in quotes [the same (`chosen_line`)]
     // Proved: each offset in these lines and at the start of a row of bytes is in the base of the tree, decimal or
     //   hexadecimal, and all other numbers are decimal [the same (`report_text`, `row_text`)]
     // Proved: all other lines begin with two spaces, or are rows of bytes, and none has a second line feed [the same

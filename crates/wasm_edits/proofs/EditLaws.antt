@@ -11,7 +11,7 @@ use Rattle.wasm_edits.proofs.SectionEvents.{NoneCustom, OtherOrCustom, events_he
 use Rattle.wasm_edits.proofs.StripLaws.{accepted_of, is_stripped, not_accepted, push_same}
 use Rattle.std.proofs.Math.ListN.{drop_of_length-le}
 use Rattle.std.proofs.lemmas.List.{take-append-drop}
-use Rattle.wasm_edits.specs.EditParts.{HasRoom, MovesKept, PartComes, WritesEdited}
+use Rattle.wasm_edits.specs.EditParts.{HasRoom, MovesKept, EditedPartComes, WritesEdited}
 use Rattle.wasm_edits.specs.Edited.{EditingComposes, EditsStream, IsEdited, StrippingIsAnEdit, edited}
 use Rattle.wasm_edits.specs.Edits.{CanBeMade, after_edit, after_edits, bytes_as, edited_bytes, fate_by, new_bytes, report_fate}
 use Rattle.wasm_edits.specs.declared.edits.Edit.{Edit}
@@ -230,5 +230,5 @@ never_new keep s (custom_section text data_offset window) e = kept_or_gone s (st
 never_new keep s _ e = cc
 
 pub nothing_new : (keep : Keep) (stream : List ℕ) (events : List Event) (part : Part) (s : NewSection) (new : Feed)
-    → PartComes (edit.Keep keep ∷ []) stream events (Ok (Some part)) new → part.fate ≡ Becomes s → ⊥
+    → EditedPartComes (edit.Keep keep ∷ []) stream events (Ok (Some part)) new → part.fate ≡ Becomes s → ⊥
 nothing_new keep stream events part s new (e, c, is, a) b = never_new keep s e.report (sym is ∙ b)

@@ -15,7 +15,7 @@ use Rattle.wasm_edits.specs.declared.edits.Fate.{Fate}
 use Rattle.wasm_edits.specs.declared.edits.Fate.TheVariants.{Stays, Goes, Becomes}
 use Rattle.wasm_edits.specs.declared.streaming.Passed.TheVariants.{Cut, Part}
 use Rattle.wasm_streams.specs.Beside.{unseen}
-use Rattle.wasm_streams.specs.Passing.{EndsBefore, PartEnds, if_stays}
+use Rattle.wasm_streams.specs.Passing.{EndsAtError, PartEnds, if_stays}
 use Rattle.wasm_streams.specs.Progress.{Reached}
 use Rattle.wasm_streams.specs.Turns.{turn_after}
 use Rattle.wasm_streams.specs.Step.{Told}
@@ -281,7 +281,7 @@ module _ (edits : List Edit) (source rest taken written : Option (List ℕ)) (c 
     is_past : (fate : Fate) → ReadsOrPasses edits rest rest' written written' c stored chunk page (Part fate) new page'
         → IsPast written' fate new page'
     is_past fate (inl ((fills, same, waits), skips, is)) =
-        let (p, less) = progress.filled (edited_bytes edits) source rest taken written (lending stored chunk c) page w rest' new fills in
+        let (p, less) = progress.filled w fills in
         record {
           events = p.events;
           reached = p.reached;
@@ -331,7 +331,7 @@ module _ (edits : List Edit) (source rest taken written : Option (List ℕ)) (c 
       cut_after why v = page_cut written' (Some e) s.0 new page' s.1 written'' why v
 
   few_before : (written' : Option (List ℕ)) (stays : Bool) (missing : ℕ) (passed left new : List ℕ) (e : ListError)
-      → EndsBefore written written' stays missing page passed left new e → length passed ≤ missing
+      → EndsAtError written written' stays missing page passed left new e → length passed ≤ missing
   few_before written' stays missing passed left new e w = grind arith
 
   -- a request could not be met

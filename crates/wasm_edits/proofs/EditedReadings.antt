@@ -13,7 +13,7 @@ use Rattle.wasm_edits.proofs.Encodings.{names_back}
 use Rattle.wasm_edits.proofs.OnePass.{appended, appended_by, frames_as, made_by, made_is_named, named_made, other_made}
 use Rattle.wasm_edits.proofs.OnePass.{section_by_section}
 use Rattle.wasm_edits.proofs.SectionEvents.{IsCustom, NoneCustom, OtherOrCustom, events_here}
-use Rattle.wasm_edits.specs.EditedReading.{ComeFrom, Origin, ReadingsAreEdited, added_before, content_at, event_at, new_event, new_in}
+use Rattle.wasm_edits.specs.EditedReading.{ComeFrom, EventOrigin, ReadingsAreEdited, added_before, content_at, event_at, new_event, new_in}
 use Rattle.wasm_edits.specs.EditedReading.{new_section, new_sections, origins, origins_in}
 use Rattle.wasm_edits.specs.Edits.{CanBeMade, CanBeWritten, added_by, after_edits, as_other, fate_by, fate_from, leaves, replaces}
 use Rattle.wasm_edits.specs.Edits.{report_fate}
@@ -155,7 +155,7 @@ news_are features at encoding (s ∷ sections) fits = (
   news_are features (at + length (encoded_section s)) encoding sections (All-tail Fits s sections fits),
 )
 
-news_come : (features at : ℕ) (sections : List NewSection) (first : List Origin) (others : List Event)
+news_come : (features at : ℕ) (sections : List NewSection) (first : List EventOrigin) (others : List Event)
     → ComeFrom features (at + length (flat_map frame_bytes (map frame_of sections))) first others
     → ComeFrom features at (map (λ s. new_section s) sections ++ first) (new_events features at sections ++ others)
 news_come features at [] first others h = subst (λ (n : ℕ). ComeFrom features n first others) (omega arith) h
@@ -305,13 +305,13 @@ custom_becomes edits features from to encoding f first h c Stays is w =
 custom_becomes edits features from to encoding f first h c Goes is w = record {
   here = [];
   sections = refl;
-  come = λ more others g. subst₂ (λ (n : ℕ) (os : List Origin). ComeFrom features n os others) (omega arith)
+  come = λ more others g. subst₂ (λ (n : ℕ) (os : List EventOrigin). ComeFrom features n os others) (omega arith)
       (sym (custom_origins edits from f first more c Goes is)) g;
 }
 custom_becomes edits features from to encoding f first h c (Becomes s) is w = record {
   here = new_event features to s ∷ [];
   sections = (new_event features to s ∷ [], [], refl, new_events_of features to encoding s w, refl);
-  come = λ more others g. subst (λ (os : List Origin). ComeFrom features to os (new_event features to s ∷ others))
+  come = λ more others g. subst (λ (os : List EventOrigin). ComeFrom features to os (new_event features to s ∷ others))
       (sym (custom_origins edits from f first more c (Becomes s) is)) (
         refl,
         subst (λ (n : ℕ). ComeFrom features (to + n) (origins edits (from + length (flat_map frame_bytes (f ∷ []))) more) others)

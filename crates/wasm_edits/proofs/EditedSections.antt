@@ -10,7 +10,7 @@ use Rattle.std.proofs.lemmas.List.Elements.{All-append, All-head, All-tail, All-
 use Rattle.std.proofs.Math.ListN.{get_or-append, get_or-map}
 use Rattle.std.specs.List.{Any}
 use Rattle.wasm_edits.proofs.Encodings.{section_formed}
-use Rattle.wasm_edits.specs.Edits.{CanBeMade, after_edit, after_edits, is_named, is_other_than, name_is, replaced_by}
+use Rattle.wasm_edits.specs.Edits.{CanBeMade, after_edit, after_edits, section_is_named, is_other_than, name_is, replaced_by}
 use Rattle.wasm_edits.specs.Encoded.{Fits, frame_of}
 use Rattle.wasm_edits.specs.declared.edits.Edit.{Edit}
 use Rattle.wasm_edits.specs.declared.edits.Edit.TheVariants.{Append, Keep, Remove, Replace}
@@ -148,7 +148,7 @@ changed h (x ∷ frames) (g ∷ earlier) later f e =
     let rest : map h frames ≡ earlier ++ f ∷ later = cc in
     one_more h x g frames earlier f same (changed h frames earlier later f rest)
 
-named_is_custom : (text : List ℕ) (f : SectionFrame) → is_named text f ≡ true → f.id ≡ custom_id
+named_is_custom : (text : List ℕ) (f : SectionFrame) → section_is_named text f ≡ true → f.id ≡ custom_id
 named_is_custom text f e =
     eqb-true f.id custom_id (and_parts (nat_eq f.id custom_id) (name_is text (name (Some name_limit) f.sized.content)) e).0
 
@@ -158,9 +158,9 @@ module _ (s : NewSection) (encoding : Encoding) where
   CustomOrSame f = ((f.id ≡ custom_id) × (replaced_by s f ≡ frame_of s)) ⊎ (replaced_by s f ≡ f)
 
   custom_or_same : (f : SectionFrame) → CustomOrSame f
-  custom_or_same f = by (is_named s.name.now f) refl
+  custom_or_same f = by (section_is_named s.name.now f) refl
     where
-      by : (b : Bool) → is_named s.name.now f ≡ b → CustomOrSame f
+      by : (b : Bool) → section_is_named s.name.now f ≡ b → CustomOrSame f
       by true e = inl (named_is_custom s.name.now f e, ap (λ (b : Bool). cond b (frame_of s) f) e)
       by false e = inr (ap (λ (b : Bool). cond b (frame_of s) f) e)
 

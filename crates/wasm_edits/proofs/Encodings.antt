@@ -1,5 +1,5 @@
 -- What encodings are read as.
-use Rattle.std.proofs.Common.{◌≡◌, ℕ, zero, suc, ◌+◌, ◌-◌, ◌*◌, ◌<◌, ◌≤◌, ◌/◌, ◌%◌, ◌^◌, true, List, [], ◌∷◌, ◌++◌, length, take}
+use Rattle.std.proofs.Common.{◌≡◌, ℕ, zero, suc, ◌+◌, ◌-◌, ◌*◌, ◌<◌, ◌≤◌, ◌/◌, ◌^◌, true, List, [], ◌∷◌, ◌++◌, length, take}
 use Rattle.std.proofs.Common.{ap, refl, sym, ◌∙◌, arith, Option, Some, None, slice_index, subst}
 use Rattle.std.proofs.Math.Nat.{pow-succ'}
 use Rattle.std.proofs.lemmas.Bool.{lt-ltb}
@@ -34,15 +34,6 @@ rest_below_top p n h = omega arith
 
 take_append_all : (xs later : List ℕ) (k : ℕ) → k ≡ length xs → take k (xs ++ later) ≡ xs
 take_append_all xs later k e = rw e (take-append_seam xs later)
-
--- more bytes than a number takes change nothing
-pub leb_enough : (m n : ℕ) → n < 128 ^ suc m → leb (suc m) n ≡ leb m n
-leb_enough zero n h = grind arith
-leb_enough (suc m) n h = grind (arith, leb_enough m (n / 128), pow_more, rest_below)
-
--- the first septet and the rest
-pub leb_more : (n : ℕ) → 128 ≤ n → n < 2 ^ 32 → encoded n ≡ (n % 128 + 128) ∷ encoded (n / 128)
-leb_more n least most = grind (arith, leb_enough 3 (n / 128))
 
 pub leb_least : (m n : ℕ) → 1 ≤ length (leb m n)
 leb_least zero n = omega arith

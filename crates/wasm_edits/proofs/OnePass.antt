@@ -9,7 +9,7 @@ use Rattle.std.proofs.lemmas.Slice.Eq.{bytes_eq-Decides}
 use Rattle.std.specs.Str.{bytes_eq}
 use Rattle.wasm_base.specs.Name.{named, name_limit, name}
 use Rattle.wasm_edits.proofs.Encodings.{names_back}
-use Rattle.wasm_edits.specs.Edits.{CanBeMade, added_by, after_edit, after_edits, as_other, bytes_as, fate_by, fate_from, is_named}
+use Rattle.wasm_edits.specs.Edits.{CanBeMade, added_by, after_edit, after_edits, as_other, bytes_as, fate_by, fate_from, section_is_named}
 use Rattle.wasm_edits.specs.Edits.{is_other_than}
 use Rattle.wasm_edits.specs.Edits.{new_bytes, replaced_by}
 use Rattle.wasm_edits.specs.Encoded.{Fits, encoded_name, encoded_section, frame_of}
@@ -93,7 +93,7 @@ pub record IsNamed (text : List ℕ) (f : SectionFrame) : Type 0 where
 pub named_stays : (keeps : List ℕ → Bool) (text : List ℕ) (f : SectionFrame) → IsNamed text f → frame_stays keeps f ≡ keeps text
 named_stays keeps text f n = rw (n.id, n.reads) refl
 
-named_is : (other text : List ℕ) (f : SectionFrame) → IsNamed text f → is_named other f ≡ bytes_eq text other
+named_is : (other text : List ℕ) (f : SectionFrame) → IsNamed text f → section_is_named other f ≡ bytes_eq text other
 named_is other text f n = rw (n.id, n.reads) refl
 
 pub made_is_named : (s : NewSection) → Fits s → IsNamed s.name.now (frame_of s)

@@ -5,7 +5,7 @@ use Rattle.wasm_edits.proofs.Common.{answers_go_along, EndsWithFault, HasEdited,
 use Rattle.wasm_edits.proofs.Common.{fault_at}
 use Rattle.std.proofs.lemmas.Bool.Decides.{nat_tests}
 use Rattle.wasm_edits.proofs.EditLaws.{edited_more}
-use Rattle.wasm_edits.specs.EditParts.{GoesOn, IsPartOf, PartComes}
+use Rattle.wasm_edits.specs.EditParts.{HoldsLess, IsEditedPart, EditedPartComes}
 use Rattle.wasm_edits.proofs.StripLaws.{push_same}
 use Rattle.wasm_edits.specs.Edits.{bytes_as, edited_bytes, report_fate}
 use Rattle.wasm_edits.specs.declared.edits.Edit.{Edit}
@@ -28,7 +28,7 @@ fewer f g report bytes s n =
     grind (arith, length-append, nat_tests)
 
 pub part_goes_on : (edits : List Edit) (f g : Feed) (report : Report) (bytes : List ℕ) (part : Option Part)
-    → Moves f (tells.Part report bytes) g → IsPartOf edits report bytes part → GoesOn f (Ok part) g
+    → Moves f (tells.Part report bytes) g → IsEditedPart edits report bytes part → HoldsLess f (Ok part) g
 part_goes_on edits f g report bytes (Some part) s i = fewer f g report bytes s i.0
 part_goes_on edits f g report bytes None s i = tt
 
@@ -43,7 +43,7 @@ module _ (edits : List Edit) (stream : List ℕ) (events : List Event) (f g : Fe
       s.parses s.shows)
 
   pub part_comes : (report : Report) (bytes : List ℕ) (part : Option Part) → Moves f (tells.Part report bytes) g
-      → IsPartOf edits report bytes part → PartComes edits stream events (Ok part) g
+      → IsEditedPart edits report bytes part → EditedPartComes edits stream events (Ok part) g
   part_comes report bytes None s i =
       let u : Came 0 all_features true stream events bytes report g.state g.held = came report bytes s in
       grind arith
@@ -71,7 +71,7 @@ none_yet edits stream f s h = (
 
 module _ (edits : List Edit) (stream bytes : List ℕ) (f g : Feed) (h : HasEdited edits stream f bytes) where
   -- one more part
-  pub one_written : (part : Part) → PartComes edits stream h.0 (Ok (Some part)) g
+  pub one_written : (part : Part) → EditedPartComes edits stream h.0 (Ok (Some part)) g
       → HasEdited edits stream g (bytes ++ bytes_as part.fate part.bytes.now)
   one_written part (e, c, is, a) = (
     h.0 ++ e ∷ [],
@@ -84,7 +84,7 @@ module _ (edits : List Edit) (stream bytes : List ℕ) (f g : Feed) (h : HasEdit
   )
 
   -- the end
-  pub all_written : PartComes edits stream h.0 (Ok None) g → ReadsEdited edits stream bytes
+  pub all_written : EditedPartComes edits stream h.0 (Ok None) g → ReadsEdited edits stream bytes
   all_written (offset, r) = record { events = h.0; offset = offset; reading = r; written = h.2 }
 
 -- ---- what is written so far, and in all

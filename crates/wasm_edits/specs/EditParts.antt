@@ -14,31 +14,31 @@ use Rattle.wasm_grammar.specs.Reading.{Event, last_event, Reading, Report}
 use Rattle.wasm_frames.specs.Along.{Along}
 
 -- This is the part with this report and these bytes, or the end.
-abbrev pub IsPartOf : List Edit → Report → (bytes : List ℕ) → Option Part → Type 0
-IsPartOf edits report bytes (Some part) =
+abbrev pub IsEditedPart : List Edit → Report → (bytes : List ℕ) → Option Part → Type 0
+IsEditedPart edits report bytes (Some part) =
     (is_end report ≡ false) × (part.bytes.now ≡ bytes) × (part.fate ≡ report_fate edits report)
-IsPartOf edits report bytes None = is_end report ≡ true
+IsEditedPart edits report bytes None = is_end report ≡ true
 
 -- What is next in a stream after these events: an event with these bytes, and what becomes of it; or the end; or a
 -- fault.
-abbrev pub PartComes : List Edit → (stream : List ℕ) → List Event → Result (Option Part) Error → Feed → Type 0
-PartComes edits stream events (Ok (Some part)) new = (e : Event) × (e.consumed ≡ part.bytes.now)
+abbrev pub EditedPartComes : List Edit → (stream : List ℕ) → List Event → Result (Option Part) Error → Feed → Type 0
+EditedPartComes edits stream events (Ok (Some part)) new = (e : Event) × (e.consumed ≡ part.bytes.now)
     × (part.fate ≡ report_fate edits e.report) × Along 0 all_features stream new.state new.held (events ++ e ∷ [])
-PartComes edits stream events (Ok None) new = (offset : ℕ)
+EditedPartComes edits stream events (Ok None) new = (offset : ℕ)
     × Reading stream 0 all_features (events ++ last_event (ended offset) ∷ [])
-PartComes edits stream events (Err e) new = EndsWithFault stream e
+EditedPartComes edits stream events (Err e) new = EndsWithFault stream e
 
 -- the same wherever the feeder was
-abbrev pub TakesPart : List Edit → (old : Feed) → Result (Option Part) Error → (new : Feed) → Type 0
-TakesPart edits old result new = (stream : List ℕ) (events : List Event)
+abbrev pub TakesEditedPart : List Edit → (old : Feed) → Result (Option Part) Error → (new : Feed) → Type 0
+TakesEditedPart edits old result new = (stream : List ℕ) (events : List Event)
     → Along 0 all_features stream old.state old.held events → length stream < 2 ^ 64
-    → PartComes edits stream events result new
+    → EditedPartComes edits stream events result new
 
 -- Fewer bytes are held after a part.
-abbrev pub GoesOn : (old : Feed) → Result (Option Part) Error → (new : Feed) → Type 0
-GoesOn old (Ok (Some part)) new = length new.held < length old.held
-GoesOn old (Ok None) new = Unit {0}
-GoesOn old (Err e) new = Unit {0}
+abbrev pub HoldsLess : (old : Feed) → Result (Option Part) Error → (new : Feed) → Type 0
+HoldsLess old (Ok (Some part)) new = length new.held < length old.held
+HoldsLess old (Ok None) new = Unit {0}
+HoldsLess old (Err e) new = Unit {0}
 
 -- What becomes of the part can be written.
 abbrev pub PartFits : Result (Option Part) Error → Type 0
@@ -54,7 +54,7 @@ Passes bytes old (Ok None) new = Unit {0}
 Passes bytes old (Err e) new = Unit {0}
 
 -- | the parts so far of a stream that is edited, and what becomes of the next one; the bytes that are written of all of
---   it [`PartComes`; `HasEdited`, `ReadsEdited`]
+--   it [`EditedPartComes`; `HasEdited`, `ReadsEdited`]
 -- A stream was read so far, and these are the bytes that are written of its events.
 abbrev pub HasEdited : List Edit → (stream : List ℕ) → Feed → (bytes : List ℕ) → Type 0
 HasEdited edits stream feed bytes = (events : List Event) × Along 0 all_features stream feed.state feed.held events

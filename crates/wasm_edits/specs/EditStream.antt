@@ -18,7 +18,7 @@ use Rattle.wasm_streams.specs.Feed.{Feed}
 use Rattle.wasm_streams.specs.Lists.{IsEndedBy, IsWhole, PassesTop}
 use Rattle.wasm_streams.specs.Passing.{GivesUp, PassesPart, SkipsHere, SkipsNothing, held_by}
 use Rattle.wasm_streams.specs.declared.cursor.Cursor.{Cursor}
-use Rattle.wasm_streams.specs.Writers.{Runs, Writer}
+use Rattle.wasm_streams.specs.Writers.{RunEnds, Writer}
 use Rattle.wasm_streams.specs.Step as tells
 use Rattle.wasm_streams.specs.Step.{Told}
 use Rattle.wasm_streams.specs.declared.turns.Ended.{Ended}
@@ -57,9 +57,9 @@ pub record SkipsAs (edits : List Edit) (old : Cursor) (bytes : List ℕ) (skippe
   pub here : SkipsHere (head_stays (stays_in edits)) old bytes skipped.passing new
   pub fate : skipped.fate ≡ head_fate edits here.skip.head
 
-abbrev pub SkipsIfAny : List Edit → Cursor → (bytes : List ℕ) → Option Skipped → Cursor → Type 0
-SkipsIfAny edits old bytes (Some skipped) new = SkipsAs edits old bytes skipped new
-SkipsIfAny edits old bytes None new = SkipsNothing old bytes × (new ≡ old)
+abbrev pub SkipsEdited : List Edit → Cursor → (bytes : List ℕ) → Option Skipped → Cursor → Type 0
+SkipsEdited edits old bytes (Some skipped) new = SkipsAs edits old bytes skipped new
+SkipsEdited edits old bytes None new = SkipsNothing old bytes × (new ≡ old)
 
 -- What replaces the part can be written.
 abbrev pub CanBeSkipped : Option Skipped → Type 0
@@ -177,7 +177,7 @@ EditsPartsBy edits input output (Err e) = EditsHead edits input output
 
 -- what a call that edits a source does before it writes new sections at the end, and whether each device has failed
 abbrev pub EditsParts : List Edit → (input output : Device) → Result Ended ListError → Type 0
-EditsParts edits input output how = Runs (λ i o result. EditsPartsBy edits i o result) input output how
+EditsParts edits input output how = RunEnds (λ i o result. EditsPartsBy edits i o result) input output how
 
 -- a visitor that writes parts after these edits
 abbrev pub editor : {V W : Type 0} → (edits : V → List Edit) (page : V → List ℕ) (taken : W → Option (List ℕ))

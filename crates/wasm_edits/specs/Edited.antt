@@ -36,15 +36,15 @@ MeasuresEdited edits stream (Ok size) = (result : List ℕ) × IsEdited edits st
 MeasuresEdited edits stream (Err e) = (¬ IsAccepted stream) × EndsWithFault stream e
 
 -- What was written to the front of other bytes: the edited stream, if there is room for it. No other byte changed.
-abbrev pub IsWritten : (result old new : List ℕ) → Type 0
-IsWritten result old new = (length result ≤ length old → new ≡ result ++ drop (length result) old)
+abbrev pub FillsFront : (result old new : List ℕ) → Type 0
+FillsFront result old new = (length result ≤ length old → new ≡ result ++ drop (length result) old)
     × (length old < length result → new ≡ old)
 
 -- The edited stream was written there, and this is its length, or the greatest number if that is less; or the stream
 -- is not accepted.
 abbrev pub EditsTo : List Edit → (stream old : List ℕ) → Result ℕ Error → (new : List ℕ) → Type 0
 EditsTo edits stream old (Ok size) new = (result : List ℕ) × IsEdited edits stream result × IsLength size result
-    × IsWritten result old new
+    × FillsFront result old new
 EditsTo edits stream old (Err e) new = (¬ IsAccepted stream) × EndsWithFault stream e × (new ≡ old)
 
 -- ---- laws

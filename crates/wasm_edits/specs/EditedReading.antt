@@ -14,9 +14,9 @@ use Rattle.wasm_grammar.specs.Shifted.{shifted_event}
 -- ---- where the events come from
 
 -- where an event of an edited stream comes from: an event that begins at this offset of the stream, or a new section
-pub data Origin : Type 0 where
-  event_at : (from : ℕ) → Event → Origin
-  new_section : NewSection → Origin
+pub data EventOrigin : Type 0 where
+  event_at : (from : ℕ) → Event → EventOrigin
+  new_section : NewSection → EventOrigin
 
 -- the new section that something became, if it became one
 abbrev pub new_in : Fate → List NewSection
@@ -35,7 +35,7 @@ added_before edits (stream_end end) = new_sections edits
 added_before edits other = []
 
 -- what comes of an event at this offset: the event, nothing, or the section that replaces it
-abbrev pub origins_in : Fate → (from : ℕ) → Event → List Origin
+abbrev pub origins_in : Fate → (from : ℕ) → Event → List EventOrigin
 origins_in Stays from e = event_at from e ∷ []
 origins_in Goes from e = []
 origins_in (Becomes section) from e = new_section section ∷ []
@@ -43,7 +43,7 @@ origins_in (Becomes section) from e = new_section section ∷ []
 -- | where each event of an edited stream comes from, in order: from an event of the stream that stays; from the section
 --   that replaces it; before the end from a section that is appended [`origins`] <Custom Section>
 -- the origins of the events of an edited stream, for the events of the stream from this offset on
-abbrev pub origins : List Edit → (from : ℕ) → List Event → List Origin
+abbrev pub origins : List Edit → (from : ℕ) → List Event → List EventOrigin
 origins edits from [] = []
 origins edits from (e ∷ events) =
     map (λ section. new_section section) (added_before edits e.report)
@@ -66,14 +66,14 @@ new_event features at section = record {
 
 -- The event at this offset has this origin: it is the event of the stream, with its offsets moved as it was itself, or
 -- it is that of the new section.
-abbrev pub ComesFrom : (features to : ℕ) → Origin → Event → Type 0
+abbrev pub ComesFrom : (features to : ℕ) → EventOrigin → Event → Type 0
 ComesFrom features to (event_at from old) e = shifted_event from e ≡ shifted_event to old
 ComesFrom features to (new_section section) e = e ≡ new_event features to section
 
 -- | events that come from these: each is the same as in the stream, at the offset at which it is then, or that of a
 --   custom section with the new name and data [`ComeFrom`, `ComesFrom`, `new_event`]
 -- The events have these origins, in order, and the first begins at this offset.
-abbrev pub ComeFrom : (features to : ℕ) → List Origin → List Event → Type 0
+abbrev pub ComeFrom : (features to : ℕ) → List EventOrigin → List Event → Type 0
 ComeFrom features to [] events = events ≡ []
 ComeFrom features to (origin ∷ origins) [] = ⊥
 ComeFrom features to (origin ∷ origins) (e ∷ events) =

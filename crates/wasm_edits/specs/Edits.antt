@@ -22,8 +22,8 @@ name_is text (named other used) = bytes_eq other text
 name_is text (refused f place) = false
 
 -- whether a section is a custom section with this name
-abbrev pub is_named : (text : List ℕ) → SectionFrame → Bool
-is_named text f = nat_eq f.id custom_id && name_is text (name (Some name_limit) f.sized.content)
+abbrev pub section_is_named : (text : List ℕ) → SectionFrame → Bool
+section_is_named text f = nat_eq f.id custom_id && name_is text (name (Some name_limit) f.sized.content)
 
 -- whether a section with this name stays where those with another name do not go
 abbrev pub is_other_than : (name text : List ℕ) → Bool
@@ -31,7 +31,7 @@ is_other_than name text = not (bytes_eq text name)
 
 -- a section after those with its name were replaced
 abbrev pub replaced_by : NewSection → SectionFrame → SectionFrame
-replaced_by section f = if is_named section.name.now f then frame_of section else f
+replaced_by section f = if section_is_named section.name.now f then frame_of section else f
 
 -- | the sections of a stream after edits, one edit after the other: custom sections are removed, replaced in their
 --   places, or appended [`after_edit`] <Custom Section>

@@ -1,6 +1,6 @@
 // Editing streams in memory.
 ghost use Rattle.std.specs.Prelude.{◌≡◌, ◌+◌, ◌≤◌, ◌++◌, [], All, Ok, drop, length, take, true};
-ghost use Rattle.wasm_edits.specs.EditParts.{GoesOn, HasRoom, IsLength, IsPartOf, PartFits, Passes, TakesPart, WritesEdited};
+ghost use Rattle.wasm_edits.specs.EditParts.{HoldsLess, HasRoom, IsLength, IsEditedPart, PartFits, Passes, TakesEditedPart, WritesEdited};
 ghost use Rattle.wasm_edits.specs.Edited.{EditsStream, EditsTo, MeasuresEdited};
 ghost use Rattle.wasm_edits.specs.Edits.{CanBeMade, CanBeWritten, added_by, bytes_as, new_bytes};
 ghost use Rattle.wasm_streams.specs.Cursors.{feed_of};
@@ -67,7 +67,7 @@ fn new_part<'a>(edit: &Edit<'a>, later: &[Edit<'a>]) -> Part<'a>
 
 // Returns the part that is this frame, none at the end of the stream.
 fn part_of<'a>(bytes: &'a [u8], frame: &Frame<'_>, edits: &[Edit<'a>]) -> Option<Part<'a>>
-    ensures is { IsPartOf edits.now frame.now bytes.now result }
+    ensures is { IsEditedPart edits.now frame.now bytes.now result }
     ensures fits { All CanBeMade edits.now → PartFits (Ok result) }
 {
     match frame.kind() {
@@ -86,9 +86,9 @@ pub(crate) fn next_part<'a>(
     edits: &[Edit<'a>],
 ) -> Result<Option<Part<'a>>>
     requires finished { cursor.old.is_finished ≡ true }
-    ensures takes { TakesPart edits.now (feed_of bytes.now cursor.old) result
+    ensures takes { TakesEditedPart edits.now (feed_of bytes.now cursor.old) result
         (feed_of bytes.now cursor.new) }
-    ensures goes_on { GoesOn (feed_of bytes.now cursor.old) result
+    ensures goes_on { HoldsLess (feed_of bytes.now cursor.old) result
         (feed_of bytes.now cursor.new) }
     ensures finished { cursor.new.is_finished ≡ true }
     ensures passes { Passes bytes.now cursor.old.mark result cursor.new.mark }
@@ -191,7 +191,7 @@ fn write_edited<'a>(bytes: &'a [u8], edits: &[Edit<'a>], out: &mut [u8]) -> Resu
 pub fn edit_to(bytes: &[u8], edits: &[Edit<'_>], out: &mut [u8]) -> Result<usize>
     requires { All CanBeMade edits.now }
     // Proved: `edit_to` writes the edited stream to the front of other bytes if there is room for it, and otherwise
-    //   leaves them unchanged [the clause of `edit_to` (`EditsTo`, `IsWritten`)]
+    //   leaves them unchanged [the clause of `edit_to` (`EditsTo`, `FillsFront`)]
     ensures { EditsTo edits.now bytes.now out.old result out.new }
 {
     let size = edited_len(bytes, edits)?;

@@ -11,7 +11,7 @@ ghost use Rattle.wasm_edits.specs.Fates.{custom_stays, is_among as is_one_of, ot
 /// // Two custom sections without data, "a" and "b".
 /// let bytes = b"\0asm\x01\0\0\0\0\x02\x01a\0\x02\x01b";
 /// let keep = Keep { names: false, kept: &["b"], removed: &[] };
-/// let stripped = strip_in(alloc, bytes, keep)?;
+/// let stripped = edit(alloc, bytes, &[Edit::Keep(keep)])?;
 /// assert_eq!(rt; stripped.as_slice(), b"\0asm\x01\0\0\0\0\x02\x01b".as_slice());
 /// ```
 ///

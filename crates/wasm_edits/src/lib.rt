@@ -25,4 +25,4 @@ pub use edits::{Edit, all_fit};
 pub use encoding::{NewSection, encode};
 pub use fates::{Keep, stays};
 pub use streaming::{edit_stream, strip_stream};
-pub use stripping::{strip, strip_in, strip_in_place, strip_to_front};
+pub use stripping::{strip, strip_in_place, strip_to_front};

@@ -8,7 +8,7 @@ ghost use Rattle.wasm_streams.specs.Step.{Part};
 ghost use Rattle.wasm_streams.specs.Writers.{writer_stages};
 ghost use Rattle.wasm_edits.specs.Edits.{CanBeMade, CanBeWritten, bytes_as};
 ghost use Rattle.wasm_edits.specs.Encoded.{Fits, encoded_section};
-ghost use Rattle.wasm_edits.specs.EditStream.{CanBePassed, CanBeSkipped, EditsParts, EditsSource, ReadsOrPasses, SkipsIfAny, StopsHere, TakesPiece, WritesNew, editor};
+ghost use Rattle.wasm_edits.specs.EditStream.{CanBePassed, CanBeSkipped, EditsParts, EditsSource, ReadsOrPasses, SkipsEdited, StopsHere, TakesPiece, WritesNew, editor};
 ghost use Rattle.wasm_edits.specs.declared.edits.Edit.TheVariants as edit;
 
 use crate::edits::{Edit, Fate, added_by, frame_fate, head_fate};
@@ -92,7 +92,7 @@ struct Skipped<'a> {
 
 // Skips the part at the cursor, if its first fields are in these bytes.
 fn skip_part<'a>(cursor: &mut Cursor, bytes: &[u8], edits: &[Edit<'a>]) -> Option<Skipped<'a>>
-    ensures skips { SkipsIfAny edits.now cursor.old bytes.now result cursor.new }
+    ensures skips { SkipsEdited edits.now cursor.old bytes.now result cursor.new }
     ensures fits { All CanBeMade edits.now → CanBeSkipped result }
 {
     let start = cursor.offset();

@@ -59,7 +59,7 @@ fn move_kept(bytes: &mut [u8], keep: Keep<'_>) -> Result<usize>
 
 /// Strips a stream in place, moves the result to the front of the bytes, and returns the length of the result in bytes.
 ///
-/// The result is that of `strip_in`. The bytes after it are unspecified. It never allocates.
+/// The result is that of `edit` with `Edit::Keep(keep)`. The bytes after it are unspecified. It never allocates.
 ///
 /// # Errors
 ///
@@ -72,6 +72,9 @@ fn move_kept(bytes: &mut [u8], keep: Keep<'_>) -> Result<usize>
 /// assert_eq!(rt; &bytes[..len], b"\0asm\x01\0\0\0".as_slice());
 /// ```
 pub fn strip_to_front(bytes: &mut [u8], keep: Keep<'_>) -> Result<usize>
+    // Proved: `strip_to_front` and `strip_in_place` keep what `strip` keeps and the custom sections
+    //   with the names in `kept`, and if `removed` has names, those with other names [their clauses
+    //   (`stays_by`)]
     // Proved: `strip_to_front` moves the bytes that stay to the front of a slice and returns how
     //   many; for a stream that isn't accepted it returns the fault and leaves the bytes unchanged.
     //   It never returns `OutOfMemory` [the clause of `strip_to_front` (`StripsToFront`,
@@ -105,20 +108,6 @@ pub fn strip_in_place<A: Allocator>(bytes: &mut Vec<u8, A>, keep: Keep<'_>) -> R
     Ok(())
 }
 
-/// Returns a copy of a stream like `strip`, with any choice of custom sections and any allocator.
-///
-/// # Errors
-///
-/// Those of `strip`.
-pub fn strip_in<A: Allocator>(alloc: A, bytes: &[u8], keep: Keep<'_>) -> Result<Vec<u8, A>>
-    // Proved: `strip_in`, `strip_to_front` and `strip_in_place` keep what `strip` keeps and the
-    //   custom sections with the names in `kept`, and if `removed` has names, those with other
-    //   names [their clauses (`stays_by`)]
-    ensures { Strips (stays_by keep.entry) bytes.now result }
-{
-    edit(alloc, bytes, &[Edit::Keep(keep)])
-}
-
 /// Returns a copy of a stream without its custom sections.
 ///
 /// The copy has the header and the other sections, byte for byte and in order. With `keep_names` the custom sections
@@ -146,5 +135,5 @@ pub fn strip(alloc: Global, bytes: &[u8], keep_names: bool) -> Result<Vec<u8>>
     //   `OutOfMemory` only for an accepted one [the clause of `strip` (`RefusesToStrip`)]
     ensures { Strips (custom_stays keep_names) bytes.now result }
 {
-    strip_in(alloc, bytes, Keep::names(keep_names))
+    edit(alloc, bytes, &[Edit::Keep(Keep::names(keep_names))])
 }

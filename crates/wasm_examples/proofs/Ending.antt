@@ -1,5 +1,5 @@
 -- Where a walk over the parts of a stream is, and how it ends.
-use Rattle.std.proofs.Common.{◌≡◌, ℕ, ◌^◌, ◌<◌, ◌≤◌, true, false, List, [], ◌∷◌, ◌++◌, length, take, drop, Ok, Err, refl, sym, ap, subst}
+use Rattle.std.proofs.Common.{◌≡◌, ℕ, ◌^◌, ◌<◌, ◌≤◌, true, List, [], ◌∷◌, ◌++◌, length, take, drop, Ok, Err, refl, sym, ap, subst}
 use Rattle.std.proofs.Common.{◌∙◌, arith}
 use Rattle.std.proofs.lemmas.List.{take-append-drop, length-take-le}
 use Rattle.wasm_base.specs.declared.error.Error.{Error}
@@ -7,10 +7,10 @@ use Rattle.wasm_base.specs.FaultAt.{fault_at}
 use Rattle.wasm_frames.specs.Along.{Along, Came}
 use Rattle.wasm_grammar.specs.Content.{ended}
 use Rattle.wasm_parser.specs.ParseAnswer.{report_of, ParseAnswer}
-use Rattle.wasm_frames.specs.Answer.{asks, is_end, refuses, reports}
+use Rattle.wasm_frames.specs.Answer.{is_end, refuses, reports}
 use Rattle.wasm_frames.specs.ParserState.{ParserState, initial_state}
 use Rattle.wasm_grammar.specs.Reading.{Event, last_event, Reading}
-use Rattle.wasm_parser.specs.declared.payload.Chunk.TheVariants.{NeedMoreData, Parsed}
+use Rattle.wasm_parser.specs.declared.payload.Chunk.TheVariants.{Parsed}
 use Rattle.wasm_parser.specs.declared.payload.Payload.{Payload}
 use Rattle.wasm_parser.specs.declared.payload.Payload.TheVariants as payloads
 use Rattle.wasm_parser.proofs.ForCallers.{answers_go_along}
@@ -70,7 +70,3 @@ module _ (stream : List ℕ) (p new : ParserState) (rest : List ℕ) (w : Passed
         (omega (arith, small)) a.gives
         refl refl).0 stream refl,
   )
-
-  -- at the end of a stream nothing is asked for
-  pub never_asked : (hint : ℕ) → ParseAnswer p true rest (Ok (NeedMoreData hint)) new → ⊥
-  never_asked hint a = let no : true ≡ false = (answers_go_along.asks p new true rest hint a.gives).0 in cc

@@ -4,7 +4,7 @@ use Rattle.std.proofs.Common.{sym, ap, subst, arith, inl, inr}
 use Rattle.wasm_base.specs.FaultAt.{FaultAt, fault_at, at_offset}
 use Rattle.wasm_base.specs.Item.{ReadsAs}
 use Rattle.wasm_base.specs.Outcome.{Outcome}
-use Rattle.wasm_base.specs.Section.{Items, NextItem, ItemsOf, Section}
+use Rattle.wasm_base.specs.Section.{Items, NextItem, ItemsOf}
 use Rattle.wasm_base.specs.Window.{Place, place}
 use Rattle.wasm_base.specs.declared.error.Error.{Error}
 use Rattle.wasm_base.specs.declared.fault.Fault.TheVariants.{SizeMismatch}
@@ -13,12 +13,10 @@ use Rattle.wasm_items.specs.Flattened.{NextImport, found}
 use Rattle.wasm_items.specs.Imports.{ImportParts, import_parts}
 use Rattle.wasm_items.specs.declared.exports.Export.{Export}
 use Rattle.wasm_items.specs.declared.imports.Import.{Import}
-use Rattle.wasm_frames.specs.Frame.{unread}
-use Rattle.wasm_parser.specs.ParseAnswer.{BeginsAfterCount}
 use Rattle.wasm_parser.proofs.ForCallers.{gives, item_came, fault_came}
 use Rattle.wasm_examples.specs.Folding.{unless_refused, ReadsTo}
-use Rattle.wasm_examples.specs.Outside.{OutsideParts, no_parts, Refused, at_fault, no_such, with_import, with_export, imported, exported}
-use Rattle.wasm_examples.specs.Outside.{after_number, items_place, noted, Comes, IsMemory, IsOutside}
+use Rattle.wasm_examples.specs.Outside.{OutsideParts, no_parts, Refused, at_fault, no_such, with_outside_import, with_export, imported}
+use Rattle.wasm_examples.specs.Outside.{exported, noted, Comes, IsMemory, IsOutside}
 use Rattle.wasm_examples.specs.declared.outside.Misfit.{Misfit}
 use Rattle.wasm_examples.specs.declared.outside.Misfit.TheVariants as misfits
 
@@ -26,7 +24,7 @@ use Rattle.wasm_examples.specs.declared.outside.Misfit.TheVariants as misfits
 
 -- an import arrived
 pub import_came : (o : OutsideParts) (s t : List (Result ImportParts FaultAt)) (x : Import)
-    → NextImport {X = Import} found s (Some (Ok x)) t → imported o s ≡ imported (with_import o (import_parts x)) t
+    → NextImport {X = Import} found s (Some (Ok x)) t → imported o s ≡ imported (with_outside_import o (import_parts x)) t
 import_came o s t x h = ap (imported o) h.0
 
 pub import_fault : (o : OutsideParts) (s t : List (Result ImportParts FaultAt)) (e : Error)
@@ -41,10 +39,6 @@ imports_over o s t h = ap (imported o) h.0.0
 
 abbrev pub exports_mean : Place → Outcome Export → Type 0
 exports_mean = ReadsAs export_parts export_at
-
--- the remaining exports of a section add this
-abbrev pub rest_of : OutsideParts → Items → Result OutsideParts Refused
-rest_of o s = exported o s.left (place s.reader)
 
 -- an export arrived
 pub export_came : (o : OutsideParts) (s t : Items) (x : Export) → s.ended ≡ false → NextItem exports_mean s (Some (Ok x)) t
@@ -89,11 +83,6 @@ refuses_all one later (misfits.NoSuch n) after other h = ap (λ (x : Result Outs
 pub then_later : (one : Result OutsideParts Refused) (later : OutsideParts → Result OutsideParts Refused) (o : OutsideParts) → one ≡ Ok o
     → unless_refused one later ≡ later o
 then_later one later o h = ap (λ (x : Result OutsideParts Refused). unless_refused x later) h
-
--- ---- where the items of a payload begin
-
-pub items_begin : (s : Section) → BeginsAfterCount s → items_place (unread s.reader) ≡ place s.reader
-items_begin s h = ap (λ (x : Outcome ℕ). after_number x (place (unread s.reader))) h
 
 -- what refuses a part refuses the module
 pub misfit_there : (stream : List ℕ) (of : Result OutsideParts Refused) (m : Misfit) (after : OutsideParts)

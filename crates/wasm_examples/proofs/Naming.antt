@@ -20,7 +20,7 @@ use Rattle.wasm_custom.specs.declared.names.Name.{Name}
 use Rattle.wasm_custom.specs.declared.names.Naming.{Naming}
 use Rattle.wasm_parser.proofs.ForCallers.{gives, item_came}
 use Rattle.wasm_examples.proofs.Each.{shorter, not_zero}
-use Rattle.wasm_examples.specs.Printing.{Names, text_of, with_name, names_from, names_of_map, with_subsection, names_of_subsections}
+use Rattle.wasm_examples.specs.Printing.{EachName, text_of, with_name, names_from, names_of_map, with_subsection, names_of_subsections}
 use Rattle.wasm_examples.specs.Printing.{names_of_section}
 
 -- ---- the name of a function that is there
@@ -39,24 +39,24 @@ entries_mean = ReadsAs naming_parts naming_at
 abbrev pub NextEntry : Ascending Items → Option (Result Naming Error) → Ascending Items → Type 0
 NextEntry = NextAscending (NextItem entries_mean) offset_of_entry index_of NamesOrder
 
-from_taken : (names : Names) (left : ℕ) (last : Option ℕ) (p q : Place) (x : NamingParts) → naming_at p ≡ Ok (x, q) → is_above last x.index
-    ≡ true → names_from names (suc left) last p ≡ names_from (with_name names x) left (Some x.index) q
+from_taken : (names : EachName) (left : ℕ) (last : Option ℕ) (p q : Place) (x : NamingParts) → naming_at p ≡ Ok (x, q)
+    → is_above last x.index ≡ true → names_from names (suc left) last p ≡ names_from (with_name names x) left (Some x.index) q
 from_taken names left last p q x read above = rw (read, above) refl
 
-from_refused : (names : Names) (left : ℕ) (last : Option ℕ) (p q : Place) (x : NamingParts) → naming_at p ≡ Ok (x, q)
+from_refused : (names : EachName) (left : ℕ) (last : Option ℕ) (p q : Place) (x : NamingParts) → naming_at p ≡ Ok (x, q)
     → is_above last x.index ≡ false → names_from names (suc left) last p ≡ names_from names left last q
 from_refused names left last p q x read above = rw (read, above) refl
 
-from_fault : (names : Names) (left : ℕ) (last : Option ℕ) (p : Place) (f : FaultAt) → naming_at p ≡ Err f
+from_fault : (names : EachName) (left : ℕ) (last : Option ℕ) (p : Place) (f : FaultAt) → naming_at p ≡ Err f
     → names_from names (suc left) last p ≡ names
 from_fault names left last p f read = rw read refl
 
 -- the remaining names of a map that goes on, and of one that is over
-going_on : (names : Names) (map : Ascending Items) → map.entries.ended ≡ false → names_of_map names map
+going_on : (names : EachName) (map : Ascending Items) → map.entries.ended ≡ false → names_of_map names map
     ≡ names_from names map.entries.left map.last (place map.entries.reader)
 going_on names map e = rw e refl
 
-is_over : (names : Names) (map : Ascending Items) → map.entries.ended ≡ true → names_of_map names map ≡ names
+is_over : (names : EachName) (map : Ascending Items) → map.entries.ended ≡ true → names_of_map names map ≡ names
 is_over names map e = rw e refl
 
 -- a map that gave something was going on
@@ -67,7 +67,7 @@ is_going s t given n = by_end s.ended refl
     by_end false e = e
     by_end true e = let none = (n.over e).0 in cc
 
-pub entry_came : (names : Names) (s t : Ascending Items) (x : Naming) → NextEntry s (Some (Ok x)) t → names_of_map names s
+pub entry_came : (names : EachName) (s t : Ascending Items) (x : Naming) → NextEntry s (Some (Ok x)) t → names_of_map names s
     ≡ names_of_map (with_name names (naming_parts x)) t
 entry_came names s t x next =
     let going = is_going s.entries t.entries (Ok x) next.order.0 in
@@ -79,7 +79,7 @@ entry_came names s t x next =
     ∙ (ap (λ l. names_from (with_name names (naming_parts x)) t.entries.left l (place t.entries.reader)) (sym next.order.2)
     ∙ sym (going_on (with_name names (naming_parts x)) t item.2))))
 
-entry_refused : (names : Names) (s t : Ascending Items) (x : Naming) → NextItem entries_mean s.entries (Some (Ok x)) t.entries
+entry_refused : (names : EachName) (s t : Ascending Items) (x : Naming) → NextItem entries_mean s.entries (Some (Ok x)) t.entries
     → is_above s.last (index_of x) ≡ false → t.last ≡ s.last → names_of_map names s ≡ names_of_map names t
 entry_refused names s t x next below last =
     let going = is_going s.entries t.entries (Ok x) next in
@@ -91,7 +91,7 @@ entry_refused names s t x next below last =
     ∙ (ap (λ l. names_from names t.entries.left l (place t.entries.reader)) (sym last)
     ∙ sym (going_on names t item.2))))
 
-own_fault : (names : Names) (s t : Ascending Items) (e : Error) → NextItem entries_mean s.entries (Some (Err e)) t.entries
+own_fault : (names : EachName) (s t : Ascending Items) (e : Error) → NextItem entries_mean s.entries (Some (Err e)) t.entries
     → names_of_map names s ≡ names_of_map names t
 own_fault names s t e next = going_on names s going ∙ by_left s.entries.left refl
   where
@@ -106,7 +106,7 @@ own_fault names s t e next = going_on names s going ∙ by_left s.entries.left r
         ap (λ m. names_from names m s.last (place s.entries.reader)) k
         ∙ (from_fault names n s.last (place s.entries.reader) (fault_at e) item.0 ∙ sym (is_over names t item.2))
 
-pub entry_fault : (names : Names) (s t : Ascending Items) (e : Error) → NextEntry s (Some (Err e)) t → names_of_map names s
+pub entry_fault : (names : EachName) (s t : Ascending Items) (e : Error) → NextEntry s (Some (Err e)) t → names_of_map names s
     ≡ names_of_map names t
 entry_fault names s t e next = by_order next.order.0
   where
@@ -125,38 +125,39 @@ abbrev pub NextPart : Ascending Window → Option (Result Name Error) → Ascend
 NextPart = NextAscending (NextSubsection subsections_mean false) offset_of_subsection id_of NameSectionOrder
 
 -- The remaining subsections of a section make these of the names so far.
-pub record Left (all names : Names) (s : Ascending Window) : Type 0 where
+pub record Left (all names : EachName) (s : Ascending Window) : Type 0 where
   pub most : ℕ
   pub enough : length (place s.entries).rest ≤ most
   pub makes : all ≡ names_of_subsections names most s.last (place s.entries)
 
-pub all_left : (names : Names) (w : Window) (s : Ascending Window) → s ≡ none_given w → Left (names_of_section names (place w)) names s
+pub all_left : (names : EachName) (w : Window) (s : Ascending Window) → s ≡ none_given w → Left (names_of_section names (place w)) names s
 all_left names w s e = subst (λ (a : Ascending Window). Left (names_of_section names (place w)) names a) (sym e)
     (record { most = length (place w).rest; enough = omega arith; makes = refl })
 
-taken : (names : Names) (most : ℕ) (last : Option ℕ) (p q : Place) (head : (ℕ × Window) × Place) (part : NameParts)
+taken : (names : EachName) (most : ℕ) (last : Option ℕ) (p q : Place) (head : (ℕ × Window) × Place) (part : NameParts)
     → nat_eq (length p.rest) 0 ≡ false → subsection_at p ≡ Ok head → q ≡ head.1 → name_in head.0.0 head.0.1 ≡ Ok part
     → is_above last (id_of_parts part) ≡ true → names_of_subsections names (suc most) last p
     ≡ names_of_subsections (with_subsection names part) most (Some (id_of_parts part)) q
 taken names most last p q head part some read after named above = rw (some, read, named, above, after) refl
 
-out_of_order : (names : Names) (most : ℕ) (last : Option ℕ) (p q : Place) (head : (ℕ × Window) × Place) (part : NameParts)
+out_of_order : (names : EachName) (most : ℕ) (last : Option ℕ) (p q : Place) (head : (ℕ × Window) × Place) (part : NameParts)
     → nat_eq (length p.rest) 0 ≡ false → subsection_at p ≡ Ok head → q ≡ head.1 → name_in head.0.0 head.0.1 ≡ Ok part
     → is_above last (id_of_parts part) ≡ false → names_of_subsections names (suc most) last p ≡ names_of_subsections names most last q
 out_of_order names most last p q head part some read after named above = rw (some, read, named, above, after) refl
 
-unreadable : (names : Names) (most : ℕ) (last : Option ℕ) (p q : Place) (head : (ℕ × Window) × Place) (f : FaultAt)
+unreadable : (names : EachName) (most : ℕ) (last : Option ℕ) (p q : Place) (head : (ℕ × Window) × Place) (f : FaultAt)
     → nat_eq (length p.rest) 0 ≡ false → subsection_at p ≡ Ok head → q ≡ head.1 → name_in head.0.0 head.0.1 ≡ Err f
     → names_of_subsections names (suc most) last p ≡ names_of_subsections names most last q
 unreadable names most last p q head f some read after named = rw (some, read, named, after) refl
 
-headless : (names : Names) (most : ℕ) (last : Option ℕ) (p q : Place) (f : FaultAt) → nat_eq (length p.rest) 0 ≡ false → subsection_at p
+headless : (names : EachName) (most : ℕ) (last : Option ℕ) (p q : Place) (f : FaultAt) → nat_eq (length p.rest) 0 ≡ false → subsection_at p
     ≡ Err f → q ≡ after_refused p → names_of_subsections names (suc most) last p ≡ names_of_subsections names most last q
 headless names most last p q f some read after = rw (some, read, after) refl
 
-module _ (all names : Names) (s t : Ascending Window) (w : Left all names s) where
+module _ (all names : EachName) (s t : Ascending Window) (w : Left all names s) where
   -- one step: at most this many more follow, and the rest after it is the rest there was
-  goes_on : (after : Names) → KeepsWindow s.entries t.entries → s.entries.position < t.entries.position → 0 < length (place s.entries).rest
+  goes_on : (after : EachName) → KeepsWindow s.entries t.entries → s.entries.position < t.entries.position
+      → 0 < length (place s.entries).rest
       → ((most : ℕ) → names_of_subsections names (suc most) s.last (place s.entries)
       ≡ names_of_subsections after most t.last (place t.entries)) → Left all after t
   goes_on after keeps on some step = by_most w.most refl

@@ -22,7 +22,7 @@ use Rattle.wasm_streams.specs.declared.turns.Turn.{Turn}
 use Rattle.wasm_streams.specs.declared.turns.Turn.TheVariants.{Advance, Read, End}
 use Rattle.wasm_streams.proofs.ForCallers.{feeders_go_along, feeders_wait}
 use Rattle.wasm_feed.proofs.ForCallers.{joined_more, joined_parts}
-use Rattle.wasm_examples.specs.Visits.{part, Visits, Tells, HasVisited, HasVisitedAll, StopsAt}
+use Rattle.wasm_examples.specs.Visits.{part, Visits, Tells, HasVisited, HasVisitedAll, StopsVisit}
 use Rattle.wasm_examples.specs.Visits.{IsAsked, VisitsNext, VisitsHeld, StoresLittle}
 use Rattle.wasm_examples.specs.Visits.{VisitsStream}
 
@@ -129,7 +129,7 @@ module _ {V : Type 0} (takes : V → Event → V → Type 0) where
           (n features given begun (r.visited features given begun h l) l)
 
       pub held_stopped : (e : Error) → VisitsNext takes f now (Err e) g after → VisitsHeld takes old before (Err e) g after
-      held_stopped e n features given begun h l = subst (λ (eof : Bool). StopsAt takes features eof given begun e after) r.eof
+      held_stopped e n features given begun h l = subst (λ (eof : Bool). StopsVisit takes features eof given begun e after) r.eof
           (n features given begun (r.visited features given begun h l) l)
 
   -- ---- the chunks
@@ -150,7 +150,7 @@ module _ {V : Type 0} (takes : V → Event → V → Type 0) where
   }
 
   stop_of : (features : ℕ) (eof : Bool) (given rest stream : List ℕ) (begun : V) (e : Error) (now : V) → eof ≡ false → stream ≡ given
-      ++ rest → StopsAt takes features eof given begun e now → StopsAt takes features true stream begun e now
+      ++ rest → StopsVisit takes features eof given begun e now → StopsVisit takes features true stream begun e now
   stop_of features eof given rest stream begun e now f w (inl m) = inl m
   stop_of features eof given rest stream begun e now f w (inr (events, reads, visits)) =
       inr (
@@ -294,5 +294,5 @@ module _ {V : Type 0} (takes : V → Event → V → Type 0) where
     last_visited false h = let no : true ≡ false = sym is_reported ∙ (sym h.1 ∙ h.0.2.0) in cc
 
     pub last_stopped : (x : Error) → VisitsHeld takes mid now (Err x) new after → VisitsStream takes pieces features begun (Err x) after
-    last_stopped x h = subst (λ (eof : Bool). StopsAt takes features eof (joined pieces) begun x after) is_reported
+    last_stopped x h = subst (λ (eof : Bool). StopsVisit takes features eof (joined pieces) begun x after) is_reported
         (h features (joined pieces) begun given small)

@@ -16,13 +16,13 @@ abbrev pub data_place : Window → (data_offset : ℕ) → Place
 data_place window data_offset = advanced (data_offset - (place window).offset) (place window)
 
 -- the name of a custom section, if one is reported
-abbrev pub names_in : Report → List (List ℕ)
-names_in (custom_section name data_offset window) = name ∷ []
-names_in other = []
+abbrev pub custom_names : Report → List (List ℕ)
+custom_names (custom_section name data_offset window) = name ∷ []
+custom_names other = []
 
 -- the same with the bytes that it takes
 abbrev pub customs_of : Event → List (List ℕ × ℕ)
-customs_of e = map (λ name. (name, length e.consumed)) (names_in e.report)
+customs_of e = map (λ name. (name, length e.consumed)) (custom_names e.report)
 
 -- names and sizes in a list
 abbrev pub sizes_in : {A : Type 0} → Vec CustomSize A → List (List ℕ × ℕ)

@@ -24,6 +24,6 @@ ReadsTo step begin stream end = (events : List Event) × Reading stream 0 all_fe
     × (after_all step begin (map event_report events) ≡ end)
 
 -- This is the result, or an allocation failed.
-abbrev pub Gives : {S : Type 0} → Result S FaultAt → Result (Unit {0}) Error → (after : S) → Type 0
-Gives of (Ok done) after = of ≡ Ok after
-Gives of (Err e) after = (fault_at e ≡ out_of_memory) ⊎ (of ≡ Err (fault_at e))
+abbrev pub FoldsTo : {S : Type 0} → Result S FaultAt → Result (Unit {0}) Error → (after : S) → Type 0
+FoldsTo of (Ok done) after = of ≡ Ok after
+FoldsTo of (Err e) after = (fault_at e ≡ out_of_memory) ⊎ (of ≡ Err (fault_at e))

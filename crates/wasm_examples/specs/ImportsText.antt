@@ -13,13 +13,13 @@ use Rattle.wasm_examples.specs.Folding.{ReadsTo}
 use Rattle.wasm_examples.specs.Outside.{items_place}
 
 -- the line of an import: the module that it is from, a blank, and its name
-abbrev pub line_of : ImportParts → List ℕ
-line_of i = i.from ++ (codes " " ++ (i.name ++ codes "\n"))
+abbrev pub import_line : ImportParts → List ℕ
+import_line i = i.from ++ (codes " " ++ (i.name ++ codes "\n"))
 
 -- a text and the lines of imports, up to their first fault
 abbrev pub with_lines : List ℕ → List (Result ImportParts FaultAt) → Result (List ℕ) FaultAt
 with_lines text [] = Ok text
-with_lines text (Ok i ∷ later) = with_lines (text ++ line_of i) later
+with_lines text (Ok i ∷ later) = with_lines (text ++ import_line i) later
 with_lines text (Err f ∷ later) = Err f
 
 -- a text and what a part of the stream adds to it

@@ -27,8 +27,8 @@ use Rattle.wasm_grammar.specs.Ids.{export_id, function_id, global_id, import_id,
 -- ---- index spaces
 
 -- this many more; a count stops at the greatest number of 64 bits, above every index
-abbrev pub more : ℕ → ℕ → ℕ
-more count n = min (count + n) (2 ^ 64 - 1)
+abbrev pub saturating_more : ℕ → ℕ → ℕ
+saturating_more count n = min (count + n) (2 ^ 64 - 1)
 
 -- how many there are of a kind
 abbrev pub span_of : Spans → ExternalKind → ℕ
@@ -40,13 +40,13 @@ span_of s kinds.Tag = s.tags
 span_of s kinds.FuncExact = s.functions
 
 -- with this many more of a kind
-abbrev pub with_more : Spans → ExternalKind → ℕ → Spans
-with_more s kinds.Func n = record s { functions = more s.functions n }
-with_more s kinds.Table n = record s { tables = more s.tables n }
-with_more s kinds.Memory n = record s { memories = more s.memories n }
-with_more s kinds.Global n = record s { globals = more s.globals n }
-with_more s kinds.Tag n = record s { tags = more s.tags n }
-with_more s kinds.FuncExact n = record s { functions = more s.functions n }
+abbrev pub with_span : Spans → ExternalKind → ℕ → Spans
+with_span s kinds.Func n = record s { functions = saturating_more s.functions n }
+with_span s kinds.Table n = record s { tables = saturating_more s.tables n }
+with_span s kinds.Memory n = record s { memories = saturating_more s.memories n }
+with_span s kinds.Global n = record s { globals = saturating_more s.globals n }
+with_span s kinds.Tag n = record s { tags = saturating_more s.tags n }
+with_span s kinds.FuncExact n = record s { functions = saturating_more s.functions n }
 
 -- the kind of an import
 abbrev pub kind_of_type : TypeRef → ExternalKind
@@ -83,13 +83,13 @@ pub data Refused : Type 0 where
 
 -- ---- one part more
 
-abbrev pub with_import : OutsideParts → ImportParts → OutsideParts
-with_import o i = record o { spans = with_more o.spans (kind_of_type i.ty) 1; imports = o.imports ++ i ∷ [] }
+abbrev pub with_outside_import : OutsideParts → ImportParts → OutsideParts
+with_outside_import o i = record o { spans = with_span o.spans (kind_of_type i.ty) 1; imports = o.imports ++ i ∷ [] }
 
 -- the imports of a section, one by one
 abbrev pub imported : OutsideParts → List (Result ImportParts FaultAt) → Result OutsideParts Refused
 imported o [] = Ok o
-imported o (Ok i ∷ later) = imported (with_import o i) later
+imported o (Ok i ∷ later) = imported (with_outside_import o i) later
 imported o (Err f ∷ later) = Err (at_fault f)
 
 -- an export of what is there
@@ -98,14 +98,14 @@ with_export o e = if nat_lt e.index (span_of o.spans e.kind) then Ok (record o {
     Err (no_such (length o.exports))
 
 -- an outcome, whose fault ends all
-abbrev pub unless_fault : {A : Type 0} → Outcome A → Result (A × Place) Refused
-unless_fault (Ok x) = Ok x
-unless_fault (Err f) = Err (at_fault f)
+abbrev pub or_fault : {A : Type 0} → Outcome A → Result (A × Place) Refused
+or_fault (Ok x) = Ok x
+or_fault (Err f) = Err (at_fault f)
 
 -- this many exports from a place on, and nothing after them
 abbrev pub exported : OutsideParts → (left : ℕ) → Place → Result OutsideParts Refused
 exported o zero p = if nat_lt 0 (length p.rest) then Err (at_fault (at_offset SizeMismatch p.offset)) else Ok o
-exported o (suc left) p = unless_refused (unless_fault (export_at p))
+exported o (suc left) p = unless_refused (or_fault (export_at p))
     (λ x. unless_refused (with_export o x.0) (λ q. exported q left x.1))
 
 -- where the items of a section begin: after its count
@@ -118,7 +118,7 @@ items_place w = after_number (unsigned_at VarU32 (place w)) (place w)
 
 -- this many more of the kind that a section with this id defines
 abbrev pub with_section : OutsideParts → ExternalKind → ℕ → Result OutsideParts Refused
-with_section o kind count = Ok (record o { spans = with_more o.spans kind count })
+with_section o kind count = Ok (record o { spans = with_span o.spans kind count })
 
 -- | the imports and exports of a module, in order, and how many there are of each kind; each export is an index of
 --   these [`IsOutside`] <Import Section to Export Section>

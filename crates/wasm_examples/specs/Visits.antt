@@ -57,9 +57,9 @@ pub record HasVisitedAll {V : Type 0} (takes : V → Event → V → Type 0) (fe
   pub visits : Visits takes begun events now
 
 -- All parts before this fault were reported to it; or an allocation failed.
-abbrev pub StopsAt : {V : Type 0} (takes : V → Event → V → Type 0) (features : ℕ) (eof : Bool) (given : List ℕ)
+abbrev pub StopsVisit : {V : Type 0} (takes : V → Event → V → Type 0) (features : ℕ) (eof : Bool) (given : List ℕ)
     (begun : V) (e : Error) (now : V) → Type 0
-StopsAt {V} takes features eof given begun e now =
+StopsVisit {V} takes features eof given begun e now =
     (fault_at e ≡ out_of_memory) ⊎ ((events : List Event)
     × ReadsEach 0 features eof given (events ++ last_event (fault (fault_at e)) ∷ [])
     × Visits takes begun events now)
@@ -84,7 +84,7 @@ VisitsNext takes old before (Ok Read) new after = IsAsked new × (new.eof ≡ ol
 VisitsNext takes old before (Ok (End how)) new after =
     WhereVisited takes old before (λ features given begun. HasVisitedAll takes features old.eof given begun after)
 VisitsNext takes old before (Err e) new after = WhereVisited takes old before
-    (λ features given begun. StopsAt takes features old.eof given begun e after)
+    (λ features given begun. StopsVisit takes features old.eof given begun e after)
 
 -- All held bytes were reported, up to a request or the end; it is known which.
 abbrev pub VisitsHeld : {V : Type 0} (takes : V → Event → V → Type 0) (old : Feed) (before : V) → Result Bool Error
@@ -94,7 +94,7 @@ VisitsHeld takes old before (Ok false) new after = IsAsked new × (new.eof ≡ o
 VisitsHeld takes old before (Ok true) new after = WhereVisited takes old before
     (λ features given begun. HasVisitedAll takes features old.eof given begun after)
 VisitsHeld takes old before (Err e) new after = WhereVisited takes old before
-    (λ features given begun. StopsAt takes features old.eof given begun e after)
+    (λ features given begun. StopsVisit takes features old.eof given begun e after)
 
 -- A number of bytes that is 0, or less than the bound of a part of which the first bytes had come and some bytes that
 -- come next in the stream together.
@@ -121,4 +121,4 @@ abbrev pub VisitsStream : {V : Type 0} (takes : V → Event → V → Type 0) (p
     (before : V) → Result ℕ Error → (after : V) → Type 0
 VisitsStream takes pieces features before (Ok most) after =
     HasVisitedAll takes features true (joined pieces) before after × StoresLittle features (joined pieces) most
-VisitsStream takes pieces features before (Err e) after = StopsAt takes features true (joined pieces) before e after
+VisitsStream takes pieces features before (Err e) after = StopsVisit takes features true (joined pieces) before e after

@@ -5,7 +5,7 @@ ghost use Rattle.wasm_base.specs.Features.{feature_bits};
 ghost use Rattle.wasm_base.specs.Owned.{out_of_memory};
 ghost use Rattle.wasm_feed.specs.Pieces.{joined};
 ghost use Rattle.wasm_parser.specs.ParseAnswer.{report_of};
-ghost use Rattle.wasm_examples.specs.Customs.{names_in, ListsCustoms};
+ghost use Rattle.wasm_examples.specs.Customs.{custom_names, ListsCustoms};
 
 use crate::visits::{Visitor, visit_pieces};
 use std::alloc::Global;
@@ -61,8 +61,8 @@ impl Visitor for CustomSizes {
 // Returns the name of a custom section.
 fn custom_name(payload: Payload<'_>) -> Option<&str>
     ensures { MatchOption result
-        (names_in (report_of payload.entry) ≡ [])
-        (λ name. names_in (report_of payload.entry) ≡ name.now ∷ []) }
+        (custom_names (report_of payload.entry) ≡ [])
+        (λ name. custom_names (report_of payload.entry) ≡ name.now ∷ []) }
 {
     match payload {
         Payload::CustomSection(section) => Some(section.name()),

@@ -4,9 +4,9 @@ ghost use Rattle.wasm_base.specs.FaultAt.{fault_at};
 ghost use Rattle.wasm_base.specs.Owned.{out_of_memory};
 ghost use Rattle.wasm_items.specs.Imports.{import_parts};
 ghost use Rattle.wasm_parser.specs.ParseAnswer.{report_of, ItemsBegin};
-ghost use Rattle.wasm_examples.specs.Folding.{Gives};
+ghost use Rattle.wasm_examples.specs.Folding.{FoldsTo};
 ghost use Rattle.wasm_examples.specs.Imported.{imports_of};
-ghost use Rattle.wasm_examples.specs.ImportsText.{line_of, with_lines, with_part, IsImportsText};
+ghost use Rattle.wasm_examples.specs.ImportsText.{import_line, with_lines, with_part, IsImportsText};
 
 use std::alloc::Global;
 use wasm_base::{Error, Fault, Result};
@@ -33,7 +33,7 @@ pub fn imports_text(alloc: Global, bytes: &[u8]) -> Result<String>
 
 // Adds the imports of a payload.
 fn add_payload(text: &mut String, payload: Payload<'_>) -> Result<()>
-    ensures { ItemsBegin payload.entry → Gives
+    ensures { ItemsBegin payload.entry → FoldsTo
         (with_part (string_bytes text.old) (report_of payload.entry))
         result (string_bytes text.new) }
 {
@@ -45,7 +45,7 @@ fn add_payload(text: &mut String, payload: Payload<'_>) -> Result<()>
 
 // Adds a line for each import of a section.
 fn add_imports(text: &mut String, section: ImportSectionReader<'_>) -> Result<()>
-    ensures { Gives (with_lines (string_bytes text.old) (imports_of section.entry))
+    ensures { FoldsTo (with_lines (string_bytes text.old) (imports_of section.entry))
         result (string_bytes text.new) }
 {
     for import in section.into_imports() {
@@ -57,7 +57,7 @@ fn add_imports(text: &mut String, section: ImportSectionReader<'_>) -> Result<()
 // Adds the line of an import.
 fn add_line(text: &mut String, import: Import<'_>) -> Result<()>
     ensures ok { OnOk result
-        (string_bytes text.new ≡ string_bytes text.old ++ line_of (import_parts import.entry)) }
+        (string_bytes text.new ≡ string_bytes text.old ++ import_line (import_parts import.entry)) }
     ensures memory { IfErr result (λ e. fault_at e ≡ out_of_memory) }
 {
     add(text, import.module)?;

@@ -5,7 +5,7 @@ ghost use Rattle.wasm_base.specs.Owned.{out_of_memory};
 ghost use Rattle.wasm_base.specs.Window.{place, whole_window};
 ghost use Rattle.wasm_custom.specs.Linking.{symbol_parts, linking_parts, linking_in};
 ghost use Rattle.wasm_parser.specs.ParseAnswer.{report_of};
-ghost use Rattle.wasm_examples.specs.Folding.{Gives};
+ghost use Rattle.wasm_examples.specs.Folding.{FoldsTo};
 ghost use Rattle.wasm_examples.specs.Linking.{filled_in, linked_parts, with_symbols, with_subsection, with_linking, with_relocations, with_custom, with_if_custom, with_section, linked, IsLinked};
 
 use std::alloc::Global;
@@ -82,7 +82,7 @@ impl<'a> Linked<'a> {
     }
 
     fn add_relocation(&mut self, section: u32, entry: RelocationEntry) -> Result<()>
-        ensures { Gives (Ok (with_relocation section (linked_parts self.old) entry))
+        ensures { FoldsTo (Ok (with_relocation section (linked_parts self.old) entry))
             result (linked_parts self.new) }
     {
         let symbol = self.symbol_of(&entry);
@@ -96,7 +96,7 @@ impl<'a> Linked<'a> {
     }
 
     fn add_relocations(&mut self, section: RelocSectionReader<'a>) -> Result<()>
-        ensures { Gives (with_relocations (linked_parts self.old) section.entry)
+        ensures { FoldsTo (with_relocations (linked_parts self.old) section.entry)
             result (linked_parts self.new) }
     {
         for entry in section.entries() {
@@ -106,7 +106,7 @@ impl<'a> Linked<'a> {
     }
 
     fn add_symbol(&mut self, symbol: SymbolInfo<'a>) -> Result<()>
-        ensures { Gives (Ok (with_symbol (linked_parts self.old) (symbol_parts symbol.entry)))
+        ensures { FoldsTo (Ok (with_symbol (linked_parts self.old) (symbol_parts symbol.entry)))
             result (linked_parts self.new) }
     {
         self.symbols.push(symbol)?;
@@ -114,7 +114,7 @@ impl<'a> Linked<'a> {
     }
 
     fn add_symbols(&mut self, symbols: SymbolInfoMap<'a>) -> Result<()>
-        ensures { Gives (with_symbols (linked_parts self.old) symbols.entry)
+        ensures { FoldsTo (with_symbols (linked_parts self.old) symbols.entry)
             result (linked_parts self.new) }
     {
         for symbol in symbols {
@@ -124,7 +124,7 @@ impl<'a> Linked<'a> {
     }
 
     fn add_subsection(&mut self, subsection: Linking<'a>) -> Result<()>
-        ensures { Gives (with_subsection (linked_parts self.old) (linking_parts subsection.entry))
+        ensures { FoldsTo (with_subsection (linked_parts self.old) (linking_parts subsection.entry))
             result (linked_parts self.new) }
     {
         match subsection {
@@ -134,7 +134,7 @@ impl<'a> Linked<'a> {
     }
 
     fn add_linking(&mut self, section: LinkingSectionReader<'a>) -> Result<()>
-        ensures { Gives (with_linking (linked_parts self.old) section.entry)
+        ensures { FoldsTo (with_linking (linked_parts self.old) section.entry)
             result (linked_parts self.new) }
     {
         for subsection in section {
@@ -144,7 +144,7 @@ impl<'a> Linked<'a> {
     }
 
     fn add_custom(&mut self, alloc: Global, section: CustomSectionReader<'a>) -> Result<()>
-        ensures { Gives
+        ensures { FoldsTo
             (with_custom (linked_parts self.old) section.entry.name
             (whole_window (place section.entry.reader)))
             result (linked_parts self.new) }
@@ -170,7 +170,7 @@ impl<'a> Linked<'a> {
     }
 
     fn add_if_custom(&mut self, alloc: Global, payload: Payload<'a>) -> Result<()>
-        ensures { Gives (with_if_custom (linked_parts self.old) (report_of payload.entry))
+        ensures { FoldsTo (with_if_custom (linked_parts self.old) (report_of payload.entry))
             result (linked_parts self.new) }
     {
         match payload {
@@ -180,7 +180,7 @@ impl<'a> Linked<'a> {
     }
 
     fn add(&mut self, alloc: Global, payload: Payload<'a>) -> Result<()>
-        ensures { Gives (linked (linked_parts self.old) (report_of payload.entry))
+        ensures { FoldsTo (linked (linked_parts self.old) (report_of payload.entry))
             result (linked_parts self.new) }
     {
         self.add_section(payload.as_section())?;

@@ -5,7 +5,7 @@ ghost use Rattle.wasm_parser.specs.ParseAnswer.{report_of, ItemsBegin};
 ghost use Rattle.wasm_items.specs.Exports.{export_parts};
 ghost use Rattle.wasm_items.specs.Imports.{import_parts};
 ghost use Rattle.wasm_examples.specs.Imported.{imports_of};
-ghost use Rattle.wasm_examples.specs.Outside.{kind_of_type, outside_parts, with_import, with_export, imported, exported, noted, Comes, IsMemory, IsOutside};
+ghost use Rattle.wasm_examples.specs.Outside.{kind_of_type, outside_parts, with_outside_import, with_export, imported, exported, noted, Comes, IsMemory, IsOutside};
 
 use std::alloc::Global;
 use wasm_base::Error;
@@ -30,7 +30,7 @@ pub struct Spans {
 }
 
 impl Spans {
-    ghost use Rattle.wasm_examples.specs.Outside.{span_of, with_more};
+    ghost use Rattle.wasm_examples.specs.Outside.{span_of, with_span};
 
     /// Returns the number of items of a kind.
     pub fn of(&self, kind: ExternalKind) -> u64
@@ -47,7 +47,7 @@ impl Spans {
 
     // Adds items of a kind. A count saturates above every index, so that adding can't overflow.
     fn add(&mut self, kind: ExternalKind, count: u64)
-        ensures { self.new ≡ with_more self.old kind count }
+        ensures { self.new ≡ with_span self.old kind count }
     {
         match kind {
             ExternalKind::Func | ExternalKind::FuncExact => {
@@ -109,7 +109,7 @@ fn kind_of(ty: &TypeRef) -> ExternalKind
 impl<'a> Outside<'a> {
     fn add_import(&mut self, import: Import<'a>) -> Result<(), Misfit>
         ensures ok { OnOk result
-            (outside_parts self.new ≡ with_import (outside_parts self.old) (import_parts import.entry)) }
+            (outside_parts self.new ≡ with_outside_import (outside_parts self.old) (import_parts import.entry)) }
         ensures memory { IfErr result IsMemory }
     {
         self.imports.push(import).map_err(Error::from)?;

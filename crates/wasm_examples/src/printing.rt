@@ -5,9 +5,9 @@ ghost use Rattle.wasm_base.specs.Owned.{out_of_memory};
 ghost use Rattle.wasm_base.specs.Window.{place};
 ghost use Rattle.wasm_custom.specs.Names.{naming_parts, name_parts};
 ghost use Rattle.wasm_parser.specs.ParseAnswer.{report_of, ItemsBegin};
-ghost use Rattle.wasm_examples.specs.Folding.{Gives};
+ghost use Rattle.wasm_examples.specs.Folding.{FoldsTo};
 ghost use Rattle.wasm_examples.specs.Imported.{imports_of};
-ghost use Rattle.wasm_examples.specs.Printing.{texts_of, one_more, with_name, names_of_map, with_subsection, names_of_section, with_import, with_imports, with_custom, named, AreNames};
+ghost use Rattle.wasm_examples.specs.Printing.{texts_of, one_more, with_name, names_of_map, with_subsection, names_of_section, add_imported_name, add_imported, with_custom, names_after, AreNames};
 
 use std::alloc::Global;
 use wasm_base::{BinaryReader, Result};
@@ -85,7 +85,7 @@ impl<'a> Names<'a> {
 
     fn add_import(&mut self, ty: &TypeRef) -> Result<()>
         ensures ok { OnOk result
-            (texts_of self.new.list ≡ with_import (texts_of self.old.list) ty.now) }
+            (texts_of self.new.list ≡ add_imported_name (texts_of self.old.list) ty.now) }
         ensures memory { IfErr result (λ e. fault_at e ≡ out_of_memory) }
     {
         match ty {
@@ -95,7 +95,7 @@ impl<'a> Names<'a> {
     }
 
     fn add_imports(&mut self, section: ImportSectionReader<'a>) -> Result<()>
-        ensures { Gives (with_imports (texts_of self.old.list) (imports_of section.entry))
+        ensures { FoldsTo (add_imported (texts_of self.old.list) (imports_of section.entry))
             result (texts_of self.new.list) }
     {
         for import in section.into_imports() {
@@ -105,8 +105,8 @@ impl<'a> Names<'a> {
     }
 
     fn take(&mut self, payload: Payload<'a>) -> Result<()>
-        ensures { ItemsBegin payload.entry → Gives
-            (named (texts_of self.old.list) (report_of payload.entry))
+        ensures { ItemsBegin payload.entry → FoldsTo
+            (names_after (texts_of self.old.list) (report_of payload.entry))
             result (texts_of self.new.list) }
     {
         match payload {
@@ -132,7 +132,7 @@ impl<'a> Names<'a> {
 pub fn function_names<'a>(alloc: Global, bytes: &'a [u8]) -> Result<Vec<Option<&'a str>>>
     // Proved: a printer, `function_names`, has the name of every function of a module, imported or
     //   its own, that the name sections after it give it, or none; or it returns the first fault of
-    //   the stream or of an import, or an allocation failed [`AreNames` (`named`)]
+    //   the stream or of an import, or an allocation failed [`AreNames` (`names_after`)]
     // Proved: names out of order or past the functions are ignored, and a fault in a name section
     //   ends only its list
     ensures { AreNames bytes.now result }

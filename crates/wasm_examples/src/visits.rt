@@ -9,8 +9,9 @@ ghost use Rattle.wasm_examples.specs.Visits.{part, Tells, VisitsHeld, VisitsNext
 
 use std::alloc::Global;
 use wasm_base::{Result, WasmFeatures};
-use wasm_feed::{Ended, Feeder, Step, Turn};
+use wasm_feed::{Ended, Feeder, Step};
 use wasm_parser::Payload;
+use wasm_streams::Turn;
 
 /// A visitor, which receives the parts of a stream in order.
 pub trait Visitor {

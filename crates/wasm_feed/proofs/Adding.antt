@@ -5,7 +5,7 @@ use Rattle.wasm_feed.proofs.Common.{fault_at, Error, fault, last_event, answers_
 use Rattle.wasm_feed.proofs.Common.{Feed, new_feed, pushed, finished, joined, HasCome, HasEnded, answer_of}
 use Rattle.wasm_feed.proofs.Common.{Told, Request, Part, Stop, Moves}
 use Rattle.std.specs.List.{AllZip}
-use Rattle.wasm_frames.specs.Frame.{IsPart}
+use Rattle.wasm_frames.specs.Frame.{IsPartOrEnd}
 use Rattle.wasm_feed.specs.Events.{IsKindOf, IsEvent, is_last, IsEventOfStep}
 use Rattle.wasm_feed.specs.Pieces.{IsReading, GivenTo, ReadsHeld}
 use Rattle.wasm_feed.specs.declared.events.Event.{Event}
@@ -16,7 +16,7 @@ use Rattle.wasm_grammar.specs.Reading as reading
 use Rattle.wasm_grammar.specs.Reading.{Report}
 
 -- the end alone is the last part
-last_is_end : (report : Report) (kind : EventKind) → IsPart report → IsKindOf report kind → is_last kind ≡ is_end report
+last_is_end : (report : Report) (kind : EventKind) → IsPartOrEnd report → IsKindOf report kind → is_last kind ≡ is_end report
 last_is_end report kind p h = grind arith
 
 fault_is_last : (e : Error) (kind : EventKind) → IsKindOf (last_event (fault (fault_at e))).report kind → is_last kind ≡ true
@@ -51,7 +51,7 @@ module _ {A : Type 0} (start features : ℕ) (given : List ℕ) (f g : Feed) (va
   adds (Part report bytes) value s i n =
       let u : Came start features f.eof given h.0 bytes report g.state g.held =
       stepped start features given f.state f.held h.0 h.1 f.eof (Part report bytes) g.state g.held l s.parses s.shows in
-      let p : IsPart report = answers_go_along.is_part f.state g.state f.eof f.held report (length bytes) s.parses in
+      let p : IsPartOrEnd report = answers_go_along.is_part f.state g.state f.eof f.held report (length bytes) s.parses in
       grind (arith, last_is_end, all_more, came_is)
   adds (Stop e) value s i n = let no : true ≡ false = sym (fault_is_last e value.kind i.kind) ∙ n in cc
 
@@ -62,7 +62,7 @@ module _ {A : Type 0} (start features : ℕ) (given : List ℕ) (f g : Feed) (va
   ends (Part report bytes) value s i n =
       let u : Came start features f.eof given h.0 bytes report g.state g.held =
       stepped start features given f.state f.held h.0 h.1 f.eof (Part report bytes) g.state g.held l s.parses s.shows in
-      let p : IsPart report = answers_go_along.is_part f.state g.state f.eof f.held report (length bytes) s.parses in
+      let p : IsPartOrEnd report = answers_go_along.is_part f.state g.state f.eof f.held report (length bytes) s.parses in
       let over : is_end report ≡ true = grind (arith, last_is_end) in (
         h.0 ++ u.event ∷ [],
         u.ends over,
@@ -78,7 +78,7 @@ pub fewer : {A : Type 0} (f g : Feed) (x : Told) (value : Event A) → Moves f x
 fewer f g (Request hint) value s i n = absurd i
 fewer f g (Part report bytes) value s i n =
     let c = answers_go_along.consumes f.state g.state f.eof f.held (answer_of (Part report bytes)) s.parses in
-    let p : IsPart report = answers_go_along.is_part f.state g.state f.eof f.held report (length bytes) s.parses in
+    let p : IsPartOrEnd report = answers_go_along.is_part f.state g.state f.eof f.held report (length bytes) s.parses in
     grind (arith, length-append, nat_tests)
 fewer f g (Stop e) value s i n = let no : true ≡ false = sym (fault_is_last e value.kind i.kind) ∙ n in cc
 

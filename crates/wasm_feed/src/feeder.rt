@@ -1,5 +1,5 @@
 // A feeder: it takes the bytes of a stream in chunks, and its payloads borrow from it.
-ghost use Rattle.std.specs.Prelude.{◌≡◌, ◌+◌, ◌<◌, ◌≤◌, ◌++◌, true, drop, length, OnOk, OnErr, IfErr, IfOk};
+ghost use Rattle.std.specs.Prelude.{◌≡◌, ◌+◌, ◌<◌, ◌≤◌, true, length, OnOk, OnErr, IfErr, IfOk};
 ghost use Rattle.wasm_base.specs.FaultAt.{fault_at};
 ghost use Rattle.wasm_base.specs.Features.{feature_bits};
 ghost use Rattle.wasm_base.specs.Owned.{out_of_memory};
@@ -112,7 +112,7 @@ impl<A: Allocator> Model for Feeder<A> {
     ghost view = { λ f. feed_of f.bytes.items f.cursor };
 }
 
-// For `Global` only: what `step` and `open` state about the borrowed feeder names its type as memory has it (`the_row`). `step_with`
+// For `Global` only: what `step` and `open` state about the borrowed feeder names its type as memory has it (`the_row`). `step_over`
 // exists for any allocator.
 impl Feeder {
     ghost use Rattle.std.specs.Borrow.{sem};
@@ -132,16 +132,16 @@ impl Feeder {
 
     /// Returns the next part of the stream, or a request for more input.
     ///
-    /// The call is the same as `open().step()`. In verified code prefer that one, or `step_with`: their contracts
-    /// describe the feeder right after the step, and not only after the payload is dropped.
+    /// The call is the same as `open().step()`. In verified code prefer that one: its contract describes the feeder right
+    /// after the step, and not only after the payload is dropped.
     ///
     /// # Errors
     ///
     /// The fault at which the stream stops, as `Parser::parse` returns it. Each later step returns it again.
     pub fn step(&mut self) -> Result<Step<'_>>
         // Proved: after a step the feeder holds what follows the bytes that it consumed, and stores
-        //   as much as before [`after` on `step`; the clauses of `open`, `Opened::step` and
-        //   `step_with` (`Steps`, `LendsCursor`)]
+        //   as much as before [`after` on `step`; the clauses of `open` and `Opened::step` (`Steps`,
+        //   `LendsCursor`)]
         // Proved: after a step the feeder wants more exactly if the step asked for it
         ensures* after { sem 𝓛 (Rests the_row self.entry (Steps self.old result)) }
         // Proved: `step` returns what `parse` returns for the held bytes, and provides the bytes
@@ -169,9 +169,9 @@ impl<A: Allocator> Feeder<A> {
 
     /// Creates a feeder like `new`, with any allocator for the stored bytes.
     pub fn new_in(alloc: A, offset: u64, features: WasmFeatures) -> Feeder<A>
-        // Proved: `new_in` of a feeder and of a `BoundedSink`, `read_pieces_in`, `list_in` and
-        //   `strip_in` do what the calls without `_in` do, with memory from any allocator [the same
-        //   clauses on each]
+        // Proved: `new_in` of a feeder and of a `BoundedSink`, `read_pieces_in` and `list_in` do
+        //   what the calls without `_in` do, with memory from any allocator [the same clauses on
+        //   each]
         ensures { result ≡ new_feed offset (feature_bits features) }
     {
         let mut parser = StoredParser::new(offset);
@@ -300,29 +300,11 @@ impl<A: Allocator> Feeder<A> {
         read_more(&mut self.cursor, &mut self.bytes, input, buffer)
     }
 
-    /// Performs one step, passes the result to `look`, and returns what `look` returns.
-    ///
-    /// It is an alternative to `open().step()` for code that should not hold the payload.
-    ///
-    /// ```rattle
-    /// use bitflags::Flags;
-    /// let mut feeder = Feeder::new(alloc, 0, WasmFeatures::all());
-    /// feeder.push(b"\0asm\x01\0\0\0")?;
-    /// let is_part = feeder.step_with(|step| matches!(step, Ok(Step::Parsed { .. })));
-    /// assert!(rt; is_part);
-    /// ```
-    pub fn step_with<R, F: FnOnce(Result<Step<'_>>) -> R>(&mut self, look: F) -> R
-        requires { F.IsAlwaysCallable look }
-        ensures { (s : _) × F.post look s result × Steps self.old s self.new }
-    {
-        look(parse_next(&mut self.cursor, &self.bytes))
-    }
-
     /// Performs one step over the held bytes and a chunk, passes the result to `look`, and returns the number of bytes
     /// taken from the chunk, with what `look` returned.
     ///
-    /// The step is the one that `step_with` would make after a push of the chunk, but a part that lies entirely in the
-    /// chunk is parsed in place. Pass the bytes that were not taken again, at the front of the next call's chunk. When
+    /// The step is the one that `step` would make after a push of the chunk, but a part that lies entirely in the chunk
+    /// is parsed in place. Pass the bytes that were not taken again, at the front of the next call's chunk. When
     /// the feeder requests input it has taken all of the chunk. The bytes of a fault are stored and count as taken, so
     /// that each later step returns the fault again. After `finish` the chunk must be empty.
     ///

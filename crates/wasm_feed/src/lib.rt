@@ -43,10 +43,10 @@ pub use feeder::{Feeder, Opened, Step, parse_next};
 pub use pieces::{fits_pieces, read_pieces, read_pieces_in};
 pub use wasm_edits::{
     Edit, Keep, NewSection, all_fit, edit, edit_stream, edit_to, edited_len, encode, stays, strip,
-    strip_in, strip_in_place, strip_stream, strip_to_front,
+    strip_in_place, strip_stream, strip_to_front,
 };
 pub use wasm_io::{
     BoundedSink, Failed, ListError, ReadSource, Sink, SliceSource, Source, WriteSink, write_all,
 };
 pub use wasm_lines::{list, list_in};
-pub use wasm_streams::{Ahead, Cursor, Ended, Turn, seen};
+pub use wasm_streams::{Ahead, Cursor, Ended, seen};

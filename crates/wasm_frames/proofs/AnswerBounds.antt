@@ -11,7 +11,7 @@ use Rattle.wasm_grammar.proofs.endings.Waiting.{waiting-more}
 use Rattle.wasm_grammar.proofs.parts.Guarded.{least_header, least_inside}
 use Rattle.wasm_grammar.proofs.parts.Verdicts.{Cut, verdict-cut}
 use Rattle.wasm_frames.proofs.AnswerTables.{IsFaultAlone, Answers, AsksFor, AnswersOn, as_table, from_table}
-use Rattle.wasm_frames.specs.Frame.{IsPart}
+use Rattle.wasm_frames.specs.Frame.{IsPartOrEnd}
 use Rattle.wasm_frames.proofs.Results.{goes_on}
 use Rattle.wasm_frames.proofs.Bounds.{parser_fault_lies}
 
@@ -74,16 +74,18 @@ consumes p new eof rest r h = grind (arith, in_cases p new eof rest r h, consume
 
 -- ---- what is returned is no fault
 
-tile_is_part : (features from to : ℕ) (shape : Shape) → IsPart (tile_report features from to shape)
+tile_is_part : (features from to : ℕ) (shape : Shape) → IsPartOrEnd (tile_report features from to shape)
 tile_is_part features from to shape = grind arith
 
-part_at : (p new : ParserState) (report : Report) (consumed : ℕ) (v : Verdict) → Answers p v (reports report consumed) new → IsPart report
-part_at p new report consumed (tile t) a = subst IsPart (sym a.1) (tile_is_part p.features p.offset (p.offset + length t.bytes) t.shape)
-part_at p new report consumed (final (ended o)) a = subst IsPart (sym a.1) tt
+part_at : (p new : ParserState) (report : Report) (consumed : ℕ) (v : Verdict) → Answers p v (reports report consumed) new
+    → IsPartOrEnd report
+part_at p new report consumed (tile t) a =
+    subst IsPartOrEnd (sym a.1) (tile_is_part p.features p.offset (p.offset + length t.bytes) t.shape)
+part_at p new report consumed (final (ended o)) a = subst IsPartOrEnd (sym a.1) tt
 part_at p new report consumed (final (fault f)) a = absurd a
 
 pub is_part : (p new : ParserState) (eof : Bool) (rest : List ℕ) (report : Report) (consumed : ℕ)
-    → GivesAnswer p eof rest (reports report consumed) new → IsPart report
+    → GivesAnswer p eof rest (reports report consumed) new → IsPartOrEnd report
 is_part p new eof rest report consumed h = grind (arith, in_cases p new eof rest (reports report consumed) h, part_at)
 
 -- ---- where its faults are

@@ -4,7 +4,7 @@ use Rattle.wasm_frames.proofs.Common.{nat_eq, nat_lt, zero, suc, ◌-◌, not, �
 use Rattle.wasm_frames.proofs.Common.{list_all, FaultAt, fault_at, at_offset, hint_of, hint_at, missing_at, unsigned_at, Window, Place}
 use Rattle.wasm_frames.proofs.Common.{advanced, window_over, Error, UnexpectedEof, FunctionCodeDiffer, CodeWithoutFunction, TrailingCode}
 use Rattle.wasm_frames.proofs.Common.{VarU32, when, Grammar, SectionContext, accept, check, u32_field, bytes, body_grammar, code_start}
-use Rattle.wasm_frames.proofs.Common.{Report, MatchesGrammar, ReadsByGrammar, content_at}
+use Rattle.wasm_frames.proofs.Common.{Report, MatchesGrammar, ReadsByGrammar, sized_window}
 use Rattle.std.specs.List.{list_any}
 use Rattle.wasm_grammar.specs.Grammar.{wrong_count, code_grammar, body_of}
 use Rattle.wasm_grammar.specs.Reading.{code_entry}
@@ -131,7 +131,7 @@ module _ (bodies code_bytes : ℕ) (p q : Place) (size : ℕ) (l : 0 < bodies) (
 -- ---- a body after its size
 
 -- its bytes, or too few
-pub body_given : (size : ℕ) (p q : Place) (w : Window) → content_at size p ≡ Ok (w, q)
+pub body_given : (size : ℕ) (p q : Place) (w : Window) → sized_window size p ≡ Ok (w, q)
     → ReadsByGrammar (after_size size p) p (Ok (code_entry w)) q
 body_given size p q w h =
     let c : HasContent size p w q = has_content size p w q h in
@@ -140,6 +140,6 @@ body_given size p q w h =
     grind arith in
     search (report_bytes, report_whole)
 
-pub body_lacking : (size : ℕ) (p : Place) (e : Error) (a : Place) → content_at size p ≡ Err (fault_at e)
+pub body_lacking : (size : ℕ) (p : Place) (e : Error) (a : Place) → sized_window size p ≡ Err (fault_at e)
     → hint_of e ≡ hint_at (missing_at size p) (fault_at e).fault → ReadsByGrammar (after_size size p) p (Err e) a
 body_lacking size p e a h hint = let t = too_few size p (fault_at e) h in λ s. report_missing s p size _ _ e a t.0 t.1 hint

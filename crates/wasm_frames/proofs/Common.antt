@@ -46,12 +46,12 @@ pub use Rattle.wasm_grammar.specs.Reading.{Report, start_section, data_count_sec
 pub use Rattle.wasm_grammar.specs.Tiling.{bytes_of, grammar, inside, context_of, bodies_left, bytes_left, counts}
 pub use Rattle.wasm_grammar.specs.Waiting.{Waiting, enough, wants, asked_at_section}
 unfoldable pub use Rattle.wasm_grammar.specs.Waiting.{waiting}
-pub use Rattle.wasm_frames.specs.Answer.{GivesFrame, answer_by, answer_in_time, answer_to, content_of, is_end, state_after_result}
-pub use Rattle.wasm_frames.specs.Frame.{counted_in, custom_in, unknown_in}
+pub use Rattle.wasm_frames.specs.Answer.{GivesFrame, answer_by, answer_in_time, answer_to, answer_in, is_end, state_after_result}
+pub use Rattle.wasm_frames.specs.Frame.{counted_frame, custom_frame, unknown_frame}
 pub use Rattle.wasm_frames.specs.ParserState.{ParserState, initial_state, grammar_of, known_context, ended_state, IsStateAfter}
 pub use Rattle.wasm_frames.specs.ParserState.{is_at_section, greatest, skipped_state}
 pub use Rattle.wasm_frames.specs.ReadsPart.{MatchesGrammar, ReadsByGrammar, MatchesVerdict, is_lacking, is_miscounted}
-unfoldable pub use Rattle.wasm_frames.specs.ReadsPart.{content_at}
+unfoldable pub use Rattle.wasm_frames.specs.ReadsPart.{sized_window}
 pub use Rattle.wasm_frames.specs.SkipNext.{Skip, SkipsPart, skip_in}
 pub use Rattle.wasm_frames.specs.StateAfter.{state_after, state_after_tile}
 pub use Rattle.wasm_frames.specs.Stored.{numbers_of}

@@ -8,7 +8,7 @@ use Rattle.wasm_frames.proofs.Common.{section_report, asked_at_section, ParserSt
 use Rattle.std.proofs.lemmas.Bool.{lt-leb}
 use Rattle.wasm_base.specs.Number.{Number, read, bad, short}
 use Rattle.wasm_base.specs.Window.{whole_window}
-use Rattle.wasm_frames.specs.Contents.{first_of, ReadsAll}
+use Rattle.wasm_frames.specs.Contents.{first_of, ReadsKind}
 use Rattle.wasm_frames.specs.Cuts.{CutsBy, kind_grows}
 use Rattle.wasm_frames.specs.Heads.{after_size}
 use Rattle.wasm_frames.specs.SkipNext.{CanPass}
@@ -107,7 +107,7 @@ module _ (context : SectionContext) (id size : ℕ) (here : Place) where
 
   pub content_cut : (announced : Option ℕ) (kind : Kind) (end : ℕ) (w : Window) (report : Report) → kind_grows kind ≡ true
       → context.data_counts ≡ option_to_list announced → length here.rest < size → end ≡ here.offset + size → w ≡ whole_window here
-      → ReadsAll announced kind id end w (Ok report) → CutsBy (content_grammar context kind id here.offset size) here (Some (report, end))
+      → ReadsKind announced kind id end w (Ok report) → CutsBy (content_grammar context kind id here.offset size) here (Some (report, end))
   content_cut announced (whole form) end w report g same l e at is =
       let m = rw (at, e) at (is context same) in
       rw (right_cut context form id here.offset size here.rest l g m.0) (rw (m.1, e) refl)
@@ -115,7 +115,7 @@ module _ (context : SectionContext) (id size : ℕ) (here : Place) where
 
   pub content_not_cut : (announced : Option ℕ) (kind : Kind) (end : ℕ) (w : Window) (x : Error)
       → context.data_counts ≡ option_to_list announced → length here.rest < size → end ≡ here.offset + size → w ≡ whole_window here
-      → ReadsAll announced kind id end w (Err x) → CutsBy (content_grammar context kind id here.offset size) here None
+      → ReadsKind announced kind id end w (Err x) → CutsBy (content_grammar context kind id here.offset size) here None
   content_not_cut announced (whole form) end w x same l e at is =
       let m = rw (at, e) at (is context same) in
       rw (wrong_cut context form id here.offset size here.rest (fault_at x) l m.0) refl
@@ -145,7 +145,7 @@ module _ (p : ParserState) (end : ℕ) where
   form_passes features from to id data_count content g closed l fits = cc
 
   pub section_passes : (announced : Option ℕ) (kind : Kind) (id : ℕ) (w : Window) (report : Report) → kind_grows kind ≡ true
-      → nat_eq (p.bodies + p.code_bytes) 0 ≡ true → p.offset ≤ end → end < 2 ^ 64 → ReadsAll announced kind id end w (Ok report)
+      → nat_eq (p.bodies + p.code_bytes) 0 ≡ true → p.offset ≤ end → end < 2 ^ 64 → ReadsKind announced kind id end w (Ok report)
       → CanPass p report end
   section_passes announced (whole form) id w report g closed l fits is =
       let m = is (record (known_context p) { data_counts = option_to_list announced }) refl in

@@ -4,13 +4,14 @@ use Rattle.wasm_frames.proofs.Common.{Some, None, Option, le-ltb, lt-ltb, length
 use Rattle.wasm_frames.proofs.Common.{name_limit, text_at, unsigned_at, Window, Place, advanced, place, Error, StartContent}
 use Rattle.wasm_frames.proofs.Common.{DataCountContent, DataCountDiffer, VarU32, items, index, data_count, Form, custom}
 use Rattle.wasm_frames.proofs.Common.{unknown, kind_of, wrong_content, Grammar, SectionContext, check, whole_grammar, Report}
-use Rattle.wasm_frames.proofs.Common.{start_section, data_count_section, counted_in, custom_in, unknown_in}
-use Rattle.wasm_frames.proofs.Common.{MatchesGrammar, ReadsByGrammar, is_miscounted, content_at, content_grammar, Kind, ap, option_to_list}
+use Rattle.wasm_frames.proofs.Common.{start_section, data_count_section, counted_frame, custom_frame, unknown_frame}
+use Rattle.wasm_frames.proofs.Common.{MatchesGrammar, ReadsByGrammar, is_miscounted, sized_window, content_grammar, Kind, ap}
+use Rattle.wasm_frames.proofs.Common.{option_to_list}
 use Rattle.wasm_frames.proofs.Common.{hint_at, missing_at}
 use Rattle.std.proofs.Common.{length-drop}
 use Rattle.wasm_base.specs.Window.{KeepsWindow}
 use Rattle.wasm_base.specs.declared.fault.Fault.{Fault}
-use Rattle.wasm_frames.specs.Contents.{first_of, IsWhole, ReadsAll, ReadsForm}
+use Rattle.wasm_frames.specs.Contents.{first_of, HasOwnTile, ReadsKind, ReadsForm}
 use Rattle.wasm_frames.specs.Frame.{HoldsCount}
 use Rattle.wasm_frames.specs.ReadsPart.{ReadsSingleNumber}
 use Rattle.wasm_grammar.specs.Content.{wrong_single, whole, code}
@@ -42,7 +43,7 @@ single_read trailing p v q h l = grind (arith, le-ltb, length-drop)
 module _ (context : SectionContext) (id end : ℕ) (w : Window) (first : w.position ≡ 0) where
   -- a custom section whose name was read, or refused
   pub custom_read : (name : List ℕ) (reader : Window) → text_at (Some name_limit) (place w) ≡ Ok (name, place reader)
-      → KeepsWindow w reader → ReadsForm context custom id end w (Ok (custom_in name reader))
+      → KeepsWindow w reader → ReadsForm context custom id end w (Ok (custom_frame name reader))
   unfolding wrong_content text_at
   custom_read name reader is keeps = grind arith
 
@@ -52,13 +53,13 @@ module _ (context : SectionContext) (id end : ℕ) (w : Window) (first : w.posit
   custom_refused e is hint = grind arith
 
   -- an unknown section
-  pub unknown_read : ReadsForm context unknown id end w (Ok (unknown_in id w))
+  pub unknown_read : ReadsForm context unknown id end w (Ok (unknown_frame id w))
   unfolding wrong_content
   unknown_read = grind arith
 
   -- a section of items whose count was read
   pub items_read : (count : ℕ) (reader : Window) → unsigned_at VarU32 (place w) ≡ Ok (count, place reader) → KeepsWindow w reader
-      → false ≡ is_miscounted context.data_counts id count → ReadsForm context items id end w (Ok (counted_in id count reader))
+      → false ≡ is_miscounted context.data_counts id count → ReadsForm context items id end w (Ok (counted_frame id count reader))
   unfolding unsigned_at wrong_content
   items_read count reader n keeps m = grind arith
 
@@ -115,7 +116,7 @@ none_of x y e = grind arith
 
 -- content that is there is the content of a section
 pub whole_read : (context : SectionContext) (form : Form) (id size : ℕ) (p q : Place) (w : Window) (r : Result Report Error)
-    → content_at size p ≡ Ok (w, q) → ReadsForm context form id (p.offset + size) w r
+    → sized_window size p ≡ Ok (w, q) → ReadsForm context form id (p.offset + size) w r
     → ReadsByGrammar (whole_grammar context form id p.offset size) p r q
 whole_read context form id size p q w (Ok report) h is =
     let k : HasContent size p w q = has_content size p w q h in
@@ -129,20 +130,20 @@ whole_read context form id size p q w (Err e) h is =
 
 -- ---- content of any kind that is a tile of its own
 
-pub first_place : (size : ℕ) (p q : Place) (w : Window) → content_at size p ≡ Ok (w, q) → w.position ≡ 0
+pub first_place : (size : ℕ) (p q : Place) (w : Window) → sized_window size p ≡ Ok (w, q) → w.position ≡ 0
 first_place size p q w h = grind (arith, has_content)
 
 pub content_read : (context : SectionContext) (announced : Option ℕ) (kind : Kind) (id size end : ℕ) (p q : Place) (w : Window)
-    (r : Result Report Error) → context.data_counts ≡ option_to_list announced → content_at size p ≡ Ok (w, q) → end ≡ q.offset
-    → ReadsAll announced kind id end w r → ReadsByGrammar (content_grammar context kind id p.offset size) p r q
+    (r : Result Report Error) → context.data_counts ≡ option_to_list announced → sized_window size p ≡ Ok (w, q) → end ≡ q.offset
+    → ReadsKind announced kind id end w r → ReadsByGrammar (content_grammar context kind id p.offset size) p r q
 content_read context announced (whole form) id size end p q w r same h e is =
     let k : HasContent size p w q = has_content size p w q h in
     let at : end ≡ p.offset + size = e ∙ ap (λ (x : Place). x.offset) k.after in
     whole_read context form id size p q w r h (rw at at (is context same))
 content_read context announced code id size end p q w r same h e is = absurd is
 
-pub content_missing : (context : SectionContext) (kind : Kind) (id size : ℕ) (p : Place) (e : Error) (a : Place) → IsWhole kind id
-    → content_at size p ≡ Err (fault_at e) → hint_of e ≡ hint_at (missing_at size p) (fault_at e).fault
+pub content_missing : (context : SectionContext) (kind : Kind) (id size : ℕ) (p : Place) (e : Error) (a : Place) → HasOwnTile kind id
+    → sized_window size p ≡ Err (fault_at e) → hint_of e ≡ hint_at (missing_at size p) (fault_at e).fault
     → ReadsByGrammar (content_grammar context kind id p.offset size) p (Err e) a
 content_missing context (whole form) id size p e a is h hint = whole_missing context form id size p e a h hint
 content_missing context code id size p e a is h hint = absurd is

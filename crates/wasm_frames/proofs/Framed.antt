@@ -6,7 +6,7 @@ use Rattle.wasm_frames.proofs.Common.{unsigned_at, Window, Place, advanced, wind
 use Rattle.wasm_frames.proofs.Common.{MagicAtSection, OutOfOrder, VarU32, when, Form, Kind, kind_of, wrong_content}
 use Rattle.wasm_frames.proofs.Common.{SectionContext, whole_grammar, wrong_data, content_grammar, after_length, verdict, section_grammar}
 use Rattle.wasm_frames.proofs.Common.{section_report, waiting, Report, ReadsByGrammar, MatchesVerdict, ParserState, known_context}
-use Rattle.wasm_frames.proofs.Common.{content_at}
+use Rattle.wasm_frames.proofs.Common.{sized_window}
 use Rattle.std.proofs.lemmas.Bool.{lt-leb}
 use Rattle.std.specs.List.{starts_with}
 use Rattle.wasm_base.specs.Name.{first_of, byte_at}
@@ -65,9 +65,9 @@ pub sized_ordered : (context : SectionContext) (kind : Kind) (id field size : �
 sized_ordered context kind id field size p r a h k next =
     λ s. report_right s p _ _ r a (rw (le-ltb (2 ^ 64 - 1) (p.offset + size) h) refl) (report_right s p _ _ r a (rw k refl) (next s))
 
-pub too_few : (size : ℕ) (p : Place) (f : FaultAt) → content_at size p ≡ Err f → (length p.rest < size)
+pub too_few : (size : ℕ) (p : Place) (f : FaultAt) → sized_window size p ≡ Err f → (length p.rest < size)
     × (f ≡ at_offset UnexpectedEof p.offset)
-unfolding content_at
+unfolding sized_window
 too_few size p f h = grind arith
 
 -- content that is
@@ -76,19 +76,19 @@ pub record HasContent (size : ℕ) (p : Place) (w : Window) (q : Place) : Type 0
   pub window : w ≡ window_over p.features p.offset (take size p.rest)
   pub after : q ≡ advanced size p
 
-pub has_content : (size : ℕ) (p : Place) (w : Window) (q : Place) → content_at size p ≡ Ok (w, q) → HasContent size p w q
-unfolding content_at
+pub has_content : (size : ℕ) (p : Place) (w : Window) (q : Place) → sized_window size p ≡ Ok (w, q) → HasContent size p w q
+unfolding sized_window
 has_content size p w q h = grind arith
 
 -- truncated content
-pub whole_missing : (context : SectionContext) (kind : Form) (id size : ℕ) (p : Place) (e : Error) (a : Place) → content_at size p
+pub whole_missing : (context : SectionContext) (kind : Form) (id size : ℕ) (p : Place) (e : Error) (a : Place) → sized_window size p
     ≡ Err (fault_at e) → hint_of e ≡ hint_at (missing_at size p) (fault_at e).fault
     → ReadsByGrammar (whole_grammar context kind id p.offset size) p (Err e) a
 whole_missing context kind id size p e a h hint = let t = too_few _ _ _ h in λ s. report_missing _ _ _ _ _ _ _ t.0 t.1 hint
 
 -- good content, and its report
 pub whole_good : (context : SectionContext) (kind : Form) (id size : ℕ) (p : Place) (w : Window) (q : Place) (report : Report)
-    → content_at size p ≡ Ok (w, q) → wrong_content kind p.offset (take size p.rest) ≡ None → wrong_data context kind id (p.offset + size)
+    → sized_window size p ≡ Ok (w, q) → wrong_content kind p.offset (take size p.rest) ≡ None → wrong_data context kind id (p.offset + size)
     (take size p.rest) ≡ None → report ≡ section_report p.features p.offset (p.offset + size) kind id (take size p.rest)
     → ReadsByGrammar (whole_grammar context kind id p.offset size) p (Ok report) q
 whole_good context kind id size p w q report h good counts same =

@@ -1,10 +1,10 @@
 -- What a parser reads at its offset, and what it then returns.
 use Rattle.wasm_frames.proofs.Common.{◌≡◌, ℕ, ◌+◌, ◌^◌, ◌<◌, Bool, true, false, List, length, Result, Ok, Err, refl, subst, arith, nat_eq}
 use Rattle.wasm_frames.proofs.Common.{◌-◌, not, Window, Place, window_over, place, Error, headed, bodied, fault, ended, Tile, Verdict, tile}
-use Rattle.wasm_frames.proofs.Common.{final, Grammar, verdict, body_grammar, header_grammar, section_grammar, known_context, and_parts}
+use Rattle.wasm_frames.proofs.Common.{final, Grammar, verdict, body_grammar, section_grammar, known_context, and_parts}
 use Rattle.wasm_frames.proofs.Common.{tile_report, Report, GivesFrame, MatchesGrammar}
 use Rattle.wasm_frames.proofs.Common.{MatchesVerdict, ParserState, grammar_of, is_at_section, state_after, NextFrame, Parsed}
-use Rattle.wasm_frames.specs.ReadsPart.{IsBegun, place_of, Refuses, ReadsBody, ReadsHeader, ReadsNext, ReadsNextSection}
+use Rattle.wasm_frames.specs.ReadsPart.{IsBegun, place_of, Refuses, ReadsBody, ReadsNext, ReadsNextSection}
 use Rattle.wasm_frames.specs.StateAfter.{implies_nothing}
 use Rattle.wasm_frames.proofs.Results.{gives_tile, gives_refused}
 
@@ -53,7 +53,7 @@ gives_at p q eof here after report end (final (ended x)) e m l o f at a = absurd
 gives_read : (p q : ParserState) (eof : Bool) (here after : Place) (report : Report) (end : ℕ) → ReadsNext p here (Ok report) after
     → p.offset + length here.rest < 2 ^ 64 → here.offset ≡ p.offset → here.features ≡ p.features → end ≡ after.offset
     → q ≡ state_after p end report → GivesFrame p eof here.rest (Parsed report (end - p.offset)) q
-gives_read p q eof here after report end m l o f at a = gives_at _ _ _ _ _ _ _ _ refl m.0 l o f at a
+gives_read p q eof here after report end m l o f at a = gives_at p q eof here after report end _ refl m.0 l o f at a
 
 -- ---- what is read of bytes where the parser is
 
@@ -75,10 +75,6 @@ fault_given p eof bytes after e r m l b f = grind (arith, gives_refused)
 
 pub place_at : (p : ParserState) (w : Window) (bytes : List ℕ) → w ≡ window_over p.features p.offset bytes → place w ≡ place_of p bytes
 place_at p w bytes e = grind arith
-
-pub next_header : (p : ParserState) (bytes : List ℕ) (here after : Place) (r : Result Report Error) → p.expects_header ≡ true
-    → here ≡ place_of p bytes → ReadsHeader here r after → ReadsNext p (place_of p bytes) r after
-next_header p bytes here after r h at m = matches p (place_of p bytes) after r (header_grammar p.offset) (rw h refl) (rw at at m)
 
 section_here : (p : ParserState) → is_at_section p ≡ true → grammar_of p ≡ section_grammar (known_context p) p.offset
 section_here p c = let (h, closed) = and_parts _ _ c in rw (not_false p.expects_header h, closed) refl

@@ -3,7 +3,7 @@ use Rattle.wasm_frames.proofs.Common.{◌≡◌, ℕ, ◌+◌, ◌^◌, ◌<◌,
 use Rattle.wasm_frames.proofs.Common.{fault_at, at_offset, Error, OffsetRange, Guarded-header, Guarded-inside_at, Ending, fault, ended}
 use Rattle.wasm_frames.proofs.Common.{Tile, tile, final, SectionContext, verdict, header_grammar, section_grammar, inside}
 use Rattle.wasm_frames.proofs.Common.{Waiting, enough, asked_at_section, waiting, tile_report, Report, GivesFrame, answer_by}
-use Rattle.wasm_frames.proofs.Common.{answer_in_time, answer_to, content_of, is_end, state_after_result, ParserState, grammar_of}
+use Rattle.wasm_frames.proofs.Common.{answer_in_time, answer_to, answer_in, is_end, state_after_result, ParserState, grammar_of}
 use Rattle.wasm_frames.proofs.Common.{known_context, ended_state, is_at_section, is_lacking, state_after_tile, stream_end}
 use Rattle.wasm_frames.proofs.Common.{NextFrame, NeedMoreData, Parsed, Fault, lt-ltb}
 use Rattle.wasm_base.specs.declared.fault.Fault.TheVariants.{FunctionWithoutCode, DataCountWithoutData}
@@ -106,6 +106,6 @@ gives_tile p q eof rest report consumed t l v n same s =
 -- a fault, or a request for the bytes that it hints at
 pub gives_refused : (p : ParserState) (eof : Bool) (rest : List ℕ) (r : NextFrame) (w : Waiting) (e : Error)
     → p.offset + length rest < 2 ^ 64 → verdict (grammar_of p) rest ≡ final (fault (fault_at e)) → waiting (grammar_of p) rest ≡ w
-    → content_of r ≡ answer_in_time eof w (answer_by p (final (fault (fault_at e)))) → p ≡ state_after_result p (content_of r)
+    → answer_in r ≡ answer_in_time eof w (answer_by p (final (fault (fault_at e)))) → p ≡ state_after_result p (answer_in r)
     → GivesFrame p eof rest r p
 gives_refused p eof rest r w e l v s a u = record { answer = grind (arith, below); state = u }

@@ -5,7 +5,7 @@ use Rattle.wasm_base.specs.FaultAt.{at_offset}
 use Rattle.wasm_base.specs.declared.fault.Fault.TheVariants.{OffsetRange}
 use Rattle.wasm_grammar.specs.Content.{Ending, fault, ended}
 use Rattle.wasm_grammar.specs.EventRanges.{consumed_by}
-use Rattle.wasm_frames.specs.Frame.{IsPart}
+use Rattle.wasm_frames.specs.Frame.{IsPartOrEnd}
 use Rattle.wasm_frames.specs.GivesNextEvent.{MayBe, IsUndecided}
 use Rattle.wasm_frames.specs.Answer.{Answer, Consumes, GivesAnswer, asks, is_end, refuses, reports, state_after_result}
 use Rattle.wasm_frames.specs.ParserState.{ParserState, IsStateAfter, initial_state, grammar_of}
@@ -118,7 +118,7 @@ pub record AnswersGoAlong : Type 0 where
       → GivesAnswer p eof held (reports report consumed) new → is_end report ≡ false → 0 < consumed
   -- a part that is returned is no fault
   pub is_part : (p new : ParserState) (eof : Bool) (held : List ℕ) (report : Report) (consumed : ℕ)
-      → GivesAnswer p eof held (reports report consumed) new → IsPart report
+      → GivesAnswer p eof held (reports report consumed) new → IsPartOrEnd report
   -- unless the result is a fault, the held bytes end within the offsets; after a request they are undecided
   pub below : (p new : ParserState) (eof : Bool) (held : List ℕ) (answer : Answer) → GivesAnswer p eof held answer new
       → IsNoFault answer → p.offset + length held < 2 ^ 64

@@ -53,10 +53,10 @@ state_after_result p (reports report consumed) =
 state_after_result p (refuses f) = p
 
 -- the content of what `next` returns
-abbrev pub content_of : NextFrame → Answer
-content_of (Parsed frame consumed) = reports frame consumed
-content_of (NeedMoreData hint) = asks hint
-content_of (Fault e) = refuses (fault_at e)
+abbrev pub answer_in : NextFrame → Answer
+answer_in (Parsed frame consumed) = reports frame consumed
+answer_in (NeedMoreData hint) = asks hint
+answer_in (Fault e) = refuses (fault_at e)
 
 -- | what a call returns for all the rest of a stream, or for bytes after which more may come, by what the parser knows
 --   [`answer_to`, `answer_by`, `answer_in_time`, `state_after_result`]
@@ -66,10 +66,10 @@ pub record GivesAnswer (old : ParserState) (eof : Bool) (rest : List ℕ) (given
   pub answer : given ≡ answer_to old eof rest
   pub state : new ≡ state_after_result old given
 
--- | what `next` returns [`GivesAnswer`, `content_of`]
+-- | what `next` returns [`GivesAnswer`, `answer_in`]
 -- The result of a call of `next`, and the state after it.
 abbrev pub GivesFrame : (old : ParserState) (eof : Bool) (rest : List ℕ) → NextFrame → (new : ParserState) → Type 0
-GivesFrame old eof rest result new = GivesAnswer old eof rest (content_of result) new
+GivesFrame old eof rest result new = GivesAnswer old eof rest (answer_in result) new
 
 -- What a caller made of what `next` returns, and the state after the call.
 pub record GivesMade {Out : Type 0} (made : NextFrame → Out) (old : ParserState) (eof : Bool) (rest : List ℕ)

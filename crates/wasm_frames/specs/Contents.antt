@@ -20,7 +20,7 @@ first_wrong context form id end w =
     first_of (wrong_content form w.start w.bytes) (wrong_data context form id end w.bytes)
 
 -- | the content of a section, or as much of it as there is: its report, or its first fault [`first_wrong`,
---   `ReadsAnywhere`, `ReadsItems`, `ReadsAll`] <Modules, each section>
+--   `ReadsAnywhere`, `ReadsItems`, `ReadsKind`] <Modules, each section>
 -- Content of this form was read: its report, or its first fault.
 abbrev pub ReadsForm : SectionContext → Form → (id end : ℕ) → Window → Result Report Error → Type 0
 ReadsForm context form id end w (Ok report) = (first_wrong context form id end w ≡ None)
@@ -43,12 +43,12 @@ ReadsItems announced id end w result = (context : SectionContext) → context.da
     → ReadsForm context items id end w result
 
 -- Content of this kind is a tile of its own, and a section with this id begins with a count if it is a count and items.
-abbrev pub IsWhole : Kind → (id : ℕ) → Type 0
-IsWhole (whole form) id = form ≡ items → kind_of Module id ≡ whole items
-IsWhole code id = ⊥
+abbrev pub HasOwnTile : Kind → (id : ℕ) → Type 0
+HasOwnTile (whole form) id = form ≡ items → kind_of Module id ≡ whole items
+HasOwnTile code id = ⊥
 
 -- content of this kind
-abbrev pub ReadsAll : Option ℕ → Kind → (id end : ℕ) → Window → Result Report Error → Type 0
-ReadsAll announced (whole form) id end w result = (context : SectionContext)
+abbrev pub ReadsKind : Option ℕ → Kind → (id end : ℕ) → Window → Result Report Error → Type 0
+ReadsKind announced (whole form) id end w result = (context : SectionContext)
     → context.data_counts ≡ option_to_list announced → ReadsForm context form id end w result
-ReadsAll announced code id end w result = ⊥
+ReadsKind announced code id end w result = ⊥

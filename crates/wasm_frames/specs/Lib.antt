@@ -1,7 +1,6 @@
 pub mod Along
 pub mod Answer
 pub mod AsksWhereOpen
-pub mod Checkpoint
 pub mod Contents
 pub mod Cuts
 pub mod Frame

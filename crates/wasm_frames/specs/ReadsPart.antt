@@ -117,8 +117,8 @@ ReadsBody p before result after = ReadsByGrammar (body_grammar p.bodies p.code_b
 
 -- | *n* bytes as a window; a window that is one number [`ReadsSingleNumber`] <Modules, each section>
 -- this many bytes as a window of their own
-unfoldable pub content_at : ℕ → Place → Outcome Window
-content_at size p = do
+unfoldable pub sized_window : ℕ → Place → Outcome Window
+sized_window size p = do
   bytes ← bytes_at size p
   Ok (window_over p.features p.offset bytes.0, bytes.1)
 

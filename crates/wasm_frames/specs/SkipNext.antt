@@ -4,7 +4,7 @@ use Rattle.std.specs.Prelude.{Some, None, IfSome, option_map, nat_le, if◌then�
 use Rattle.wasm_base.specs.FaultAt.{at_offset}
 use Rattle.wasm_base.specs.Window.{Window, window_over}
 use Rattle.wasm_base.specs.declared.fault.Fault.TheVariants.{UnexpectedEof}
-use Rattle.wasm_frames.specs.Frame.{range_in}
+use Rattle.wasm_frames.specs.Frame.{report_range}
 use Rattle.wasm_frames.specs.ParserState.{ParserState, grammar_of, is_at_section}
 use Rattle.wasm_frames.specs.StateAfter.{implies_nothing, missing_bytes, state_after, state_after_tile}
 use Rattle.wasm_frames.specs.declared.skipping.PartHead.{PartHead}
@@ -63,7 +63,7 @@ cut_part features c = option_map (λ c. (so_far features c.offset c.shape, c.off
 
 -- the part with this report and this end
 abbrev pub part_of : Report × ℕ → Skip
-part_of part = record { from = (range_in part.0).start; to = part.1; head = head_in part.0 }
+part_of part = record { from = (report_range part.0).start; to = part.1; head = head_in part.0 }
 
 -- what a parser skips, by the bytes from its offset on: the part there, if its end is missing
 abbrev pub skip_of : ParserState → (bytes : List ℕ) → Option Skip

@@ -1,7 +1,7 @@
 // One part of a stream.
 ghost use Rattle.std.specs.Prelude.{◌≡◌, ◌+◌, ◌<◌, ◌^◌};
 ghost use Rattle.wasm_base.specs.Window.{place};
-ghost use Rattle.wasm_frames.specs.Frame.{HoldsCount, IsPart, Reads, StartsData, counted_in, count_in, custom_in, encoding_in, id_in, kind_in, name_in, no_window, range_in, size_in, unknown_in, unread, version_in};
+ghost use Rattle.wasm_frames.specs.Frame.{HoldsCount, IsPartOrEnd, IsReaderOf, StartsData, counted_frame, report_count, custom_frame, report_encoding, report_id, report_kind, report_name, no_window, report_range, report_size, unknown_frame, unread, report_version};
 ghost use Rattle.wasm_grammar.specs.Content.{ended};
 ghost use Rattle.wasm_grammar.specs.Reading.{version, start_section, data_count_section, code_start, code_entry, stream_end};
 
@@ -34,7 +34,7 @@ pub struct Frame<'a> {
 }
 
 impl<'a> Model for Frame<'a> {
-    ghost use Rattle.wasm_frames.specs.Frame.{IsFrame, report_of};
+    ghost use Rattle.wasm_frames.specs.Frame.{HasReportFields, report_of};
     ghost use Rattle.wasm_grammar.specs.Reading.{Report};
 
     ghost Value = { Report };
@@ -52,7 +52,7 @@ impl<'a> Model for Frame<'a> {
       size = f.size;
     }) };
 
-    ghost invariant = { λ f. IsFrame (record {
+    ghost invariant = { λ f. HasReportFields (record {
       kind = f.kind;
       start = f.start;
       end = f.end;
@@ -98,7 +98,7 @@ impl<'a> Frame<'a> {
     #[inline(always)]
     pub(crate) fn items(id: u8, count: u32, reader: BinaryReader<'a>) -> Self
         requires { HoldsCount id count reader }
-        ensures { result ≡ counted_in id count reader.entry }
+        ensures { result ≡ counted_frame id count reader.entry }
     {
         let Range { start, end } = reader.range();
         Frame {
@@ -193,7 +193,7 @@ impl<'a> Frame<'a> {
     /// Returns a custom section whose content is this window, of which the name was read.
     #[inline(always)]
     pub(crate) fn custom(name: Name<'a>, reader: BinaryReader<'a>) -> Self
-        ensures { result ≡ custom_in name.entry reader.entry }
+        ensures { result ≡ custom_frame name.entry reader.entry }
     {
         let Range { start, end } = reader.range();
         Frame {
@@ -214,7 +214,7 @@ impl<'a> Frame<'a> {
     #[inline(always)]
     pub(crate) fn unknown(id: u8, reader: BinaryReader<'a>) -> Self
         requires begins { reader.position ≡ 0 }
-        ensures { result ≡ unknown_in id reader.entry }
+        ensures { result ≡ unknown_frame id reader.entry }
     {
         let Range { start, end } = reader.range();
         Frame {
@@ -254,8 +254,8 @@ impl<'a> Frame<'a> {
     pub fn kind(&self) -> FrameKind
         // Proved: a frame is its report: its kind, id, count and all other fields are those of the
         //   report, and 0 or empty where the report has none [the clause of each getter of `Frame`]
-        ensures is { result ≡ kind_in self.now }
-        ensures part { IsPart self.now }
+        ensures is { result ≡ report_kind self.now }
+        ensures part { IsPartOrEnd self.now }
     {
         self.kind
     }
@@ -263,7 +263,7 @@ impl<'a> Frame<'a> {
     /// Returns the id of a section, of a body the one of the code section, and 0 for a header and the end.
     #[inline(always)]
     pub fn id(&self) -> u8
-        ensures { result ≡ id_in self.now }
+        ensures { result ≡ report_id self.now }
     {
         self.id
     }
@@ -271,7 +271,7 @@ impl<'a> Frame<'a> {
     /// Returns the encoding that a header announces, otherwise `Module`.
     #[inline(always)]
     pub fn encoding(&self) -> Encoding
-        ensures { result ≡ encoding_in self.now }
+        ensures { result ≡ report_encoding self.now }
     {
         self.encoding
     }
@@ -279,7 +279,7 @@ impl<'a> Frame<'a> {
     /// Returns the version of a header, otherwise 0.
     #[inline(always)]
     pub fn version(&self) -> u16
-        ensures { result ≡ version_in self.now }
+        ensures { result ≡ report_version self.now }
     {
         self.version
     }
@@ -288,7 +288,7 @@ impl<'a> Frame<'a> {
     /// otherwise 0.
     #[inline(always)]
     pub fn count(&self) -> u32
-        ensures { result ≡ count_in self.now }
+        ensures { result ≡ report_count self.now }
     {
         self.count
     }
@@ -296,7 +296,7 @@ impl<'a> Frame<'a> {
     /// Returns the number of bytes of a code section after its count, otherwise 0.
     #[inline(always)]
     pub fn size(&self) -> u32
-        ensures { result ≡ size_in self.now }
+        ensures { result ≡ report_size self.now }
     {
         self.size
     }
@@ -305,7 +305,7 @@ impl<'a> Frame<'a> {
     /// text.
     #[inline(always)]
     pub fn name(&self) -> &'a str
-        ensures { result.now ≡ name_in self.now }
+        ensures { result.now ≡ report_name self.now }
     {
         self.name.text()
     }
@@ -313,7 +313,7 @@ impl<'a> Frame<'a> {
     /// Returns the bytes of the name of a custom section, otherwise none.
     #[inline(always)]
     pub fn name_bytes(&self) -> &'a [u8]
-        ensures { result.now ≡ name_in self.now }
+        ensures { result.now ≡ report_name self.now }
     {
         self.name.bytes()
     }
@@ -322,7 +322,7 @@ impl<'a> Frame<'a> {
     /// stream. Those of a code section include its bodies, which may be missing.
     #[inline(always)]
     pub fn range(&self) -> Range<u64>
-        ensures { result ≡ range_in self.now }
+        ensures { result ≡ report_range self.now }
     {
         self.start..self.end
     }
@@ -342,8 +342,8 @@ impl<'a> Frame<'a> {
     pub fn into_reader(self) -> BinaryReader<'a>
         // Proved: the reader of a frame is at the first item of a section of items, whose id is
         //   that of such a section, after the name of a custom section, and at the first byte of a
-        //   body or unknown section; that of another frame has no bytes [`Reads`]
-        ensures { Reads self.entry result }
+        //   body or unknown section; that of another frame has no bytes [`IsReaderOf`]
+        ensures { IsReaderOf self.entry result }
     {
         self.reader
     }

@@ -10,7 +10,6 @@
 #![tactic(auto)]
 
 mod advance;
-mod checkpoint;
 mod frame;
 mod kind;
 pub mod laws;
@@ -21,7 +20,6 @@ mod parts;
 mod skipping;
 mod stored;
 
-pub use checkpoint::Checkpoint;
 pub use frame::Frame;
 pub use kind::FrameKind;
 pub use next::{NextFrame, Outcome, Plain};

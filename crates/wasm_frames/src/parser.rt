@@ -1,11 +1,11 @@
 // The parser of frames.
 ghost use Rattle.std.specs.Prelude.{◌≡◌, ◌+◌, ◌<◌, ◌^◌, not, true, [], length, nat_eq};
 ghost use Rattle.wasm_base.specs.Window.{place, window_over};
-ghost use Rattle.wasm_frames.specs.Answer.{AsksForSome, Consumes, FaultsWithin, GivesFrame, GivesMade, content_of};
+ghost use Rattle.wasm_frames.specs.Answer.{AsksForSome, Consumes, FaultsWithin, GivesFrame, GivesMade, answer_in};
 ghost use Rattle.wasm_frames.specs.AsksWhereOpen.{AsksWhereOpen};
 ghost use Rattle.wasm_frames.specs.GivesNextEvent.{GivesNextEvent};
 ghost use Rattle.wasm_frames.specs.ParserState.{is_at_section as at_section};
-ghost use Rattle.wasm_frames.specs.Contents.{IsWhole};
+ghost use Rattle.wasm_frames.specs.Contents.{HasOwnTile};
 ghost use Rattle.wasm_frames.specs.ReadsPart.{IsBegun, place_of, ReadsBody, ReadsContent, ReadsNext, Refuses};
 ghost use Rattle.wasm_frames.specs.Stored.{numbers_of, parser_of};
 ghost use Rattle.wasm_grammar.specs.KindInCode.{kind_is};
@@ -45,12 +45,12 @@ impl StoredParser {
         //   frame, a fault, or a request where they do not decide; the parser is then after the
         //   frame, and otherwise unchanged
         ensures answers { GivesFrame (parser_of self.old) eof bytes.now result (parser_of self.new) }
-        ensures gives { GivesNextEvent (parser_of self.old) eof bytes.now (content_of result)
+        ensures gives { GivesNextEvent (parser_of self.old) eof bytes.now (answer_in result)
             (parser_of self.new) }
-        ensures consumes { Consumes bytes.now (content_of result) }
-        ensures asks { AsksForSome (content_of result) }
-        ensures waits { AsksWhereOpen (parser_of self.old) eof bytes.now (content_of result) }
-        ensures faults { FaultsWithin (parser_of self.old) bytes.now (content_of result) }
+        ensures consumes { Consumes bytes.now (answer_in result) }
+        ensures asks { AsksForSome (answer_in result) }
+        ensures waits { AsksWhereOpen (parser_of self.old) eof bytes.now (answer_in result) }
+        ensures faults { FaultsWithin (parser_of self.old) bytes.now (answer_in result) }
     {
         self.next_by_kind(bytes, eof)
     }
@@ -258,7 +258,7 @@ impl StoredParser {
 
     // Reads the content of a section that is a frame of its own.
     fn whole<'a, For>(&self, head: SectionHead, reader: &mut BinaryReader<'a>) -> Result<Frame<'a>>
-        requires { IsWhole (kind_is head.kind) head.id }
+        requires { HasOwnTile (kind_is head.kind) head.id }
         ensures { ReadsContent (numbers_of self.now) (kind_is head.kind) head.id head.size
             (place reader.old) result (place reader.new) }
     {

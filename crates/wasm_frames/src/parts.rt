@@ -3,9 +3,9 @@ ghost use Rattle.std.specs.Prelude.{◌≡◌, ◌+◌, ◌<◌, ◌&&◌, not, 
 ghost use Rattle.wasm_base.specs.Hints.{Hints, HintsNothing, missing_at};
 ghost use Rattle.wasm_base.specs.Outcome.{GivesBy};
 ghost use Rattle.wasm_base.specs.Window.{place, KeepsWindow};
-ghost use Rattle.wasm_frames.specs.Contents.{IsWhole, ReadsAll, ReadsAnywhere, ReadsItems, ReadsWhole};
+ghost use Rattle.wasm_frames.specs.Contents.{HasOwnTile, ReadsKind, ReadsAnywhere, ReadsItems, ReadsWhole};
 ghost use Rattle.wasm_frames.specs.Heads.{ReadsBodyHead, ReadsHead, ReadsHeadAfterId, ReadsHeadAfterLength};
-ghost use Rattle.wasm_frames.specs.ReadsPart.{is_magic_next, ReadsHeader, content_at, is_lacking, is_miscounted as miscounted, is_other, kind_of_module, ReadsCodeStart, ReadsSingleNumber};
+ghost use Rattle.wasm_frames.specs.ReadsPart.{is_magic_next, ReadsHeader, sized_window, is_lacking, is_miscounted as miscounted, is_other, kind_of_module, ReadsCodeStart, ReadsSingleNumber};
 ghost use Rattle.wasm_frames.specs.Stored.{numbers_of};
 ghost use Rattle.wasm_grammar.specs.Content.{custom, items, index, data_count, unknown, whole};
 ghost use Rattle.wasm_grammar.specs.Grammar.{encoding_named as named};
@@ -182,9 +182,9 @@ pub(crate) fn content<'a, For>(
     end: u64,
     window: BinaryReader<'a>,
 ) -> Result<Frame<'a>>
-    requires whole { IsWhole (kind_is kind) id }
+    requires whole { HasOwnTile (kind_is kind) id }
     requires begins { window.position ≡ 0 }
-    ensures { ReadsAll announced (kind_is kind) id end window.entry result }
+    ensures { ReadsKind announced (kind_is kind) id end window.entry result }
 {
     match kind {
         SectionKind::Custom => custom::<true>(id, window),
@@ -284,9 +284,9 @@ fn unknown<'a>(id: u8, window: BinaryReader<'a>) -> Result<Frame<'a>>
 }
 
 /// Reads `size` bytes and returns them as a window of their own.
-#[tactic(auto, unfolding(crate::specs::ReadsPart::content_at))]
+#[tactic(auto, unfolding(crate::specs::ReadsPart::sized_window))]
 pub(crate) fn window<'a>(size: u32, reader: &mut BinaryReader<'a>) -> Result<BinaryReader<'a>>
-    ensures gives { GivesBy (λ window. window) result reader.old reader.new (content_at size) }
+    ensures gives { GivesBy (λ window. window) result reader.old reader.new (sized_window size) }
     ensures keeps { KeepsWindow reader.old reader.new }
     ensures hints { Hints (missing_at size (place reader.old)) result }
 {

@@ -1,11 +1,9 @@
 // A parser as numbers, in the memory of a program in another language.
 ghost use Rattle.std.specs.Prelude.{◌≡◌, ◌+◌, ◌<◌, ◌^◌};
 ghost use Rattle.wasm_base.specs.Features.{all_features, feature_bits};
-ghost use Rattle.wasm_frames.specs.Checkpoint.{state_of};
 ghost use Rattle.wasm_frames.specs.ParserState.{initial_state};
-ghost use Rattle.wasm_frames.specs.Stored.{count_from, encoding_from, is_set, numbers_of, parser_of, skipped_of};
+ghost use Rattle.wasm_frames.specs.Stored.{count_from, encoding_from, numbers_of, parser_of, skipped_of};
 
-use crate::checkpoint::Checkpoint;
 use bitflags::Flags;
 use wasm_base::WasmFeatures;
 use wasm_grammar::Encoding;
@@ -49,13 +47,6 @@ pub struct StoredParser {
     pub has_data_counts: u8,
     /// Not 0 if the last event was the start of a code section, or a body.
     pub in_code: u8,
-}
-
-/// Returns the byte that says whether something holds.
-pub(crate) fn byte_of(holds: bool) -> u8
-    ensures { is_set result ≡ holds }
-{
-    if holds { 1 } else { 0 }
 }
 
 /// Returns the byte of an encoding.
@@ -130,57 +121,6 @@ impl StoredParser {
             has_datas: 0,
             has_data_counts: 0,
             in_code: 0,
-        }
-    }
-
-    /// Returns the state of the parser as plain values. `resume` makes a parser from them that continues as this one
-    /// does.
-    pub fn checkpoint(&self) -> Checkpoint
-        ensures state { state_of result ≡ numbers_of self.now }
-        ensures room { result.offset + result.code_bytes ≡ self.now.offset + self.now.code_bytes }
-    {
-        Checkpoint {
-            offset: self.offset,
-            features: self.features(),
-            expects_header: self.expects_header(),
-            encoding: self.encoding(),
-            rank: self.rank,
-            functions: self.functions(),
-            codes: self.codes(),
-            datas: self.datas(),
-            data_counts: self.data_counts(),
-            bodies: self.bodies,
-            code_bytes: self.code_bytes,
-            in_code: self.in_code != 0,
-        }
-    }
-
-    /// Returns the parser that this checkpoint describes.
-    pub fn resume(checkpoint: Checkpoint) -> Self
-        ensures state { numbers_of result ≡ state_of checkpoint }
-        ensures room { result.offset + result.code_bytes ≡ checkpoint.offset + checkpoint.code_bytes }
-    {
-        let (has_functions, functions) = count_parts(checkpoint.functions);
-        let (has_codes, codes) = count_parts(checkpoint.codes);
-        let (has_datas, datas) = count_parts(checkpoint.datas);
-        let (has_data_counts, data_counts) = count_parts(checkpoint.data_counts);
-        StoredParser {
-            offset: checkpoint.offset,
-            features: checkpoint.features.bits(),
-            functions,
-            codes,
-            datas,
-            data_counts,
-            bodies: checkpoint.bodies,
-            code_bytes: checkpoint.code_bytes,
-            is_begun: byte_of(!checkpoint.expects_header),
-            is_component: encoding_byte(checkpoint.encoding),
-            rank: checkpoint.rank,
-            has_functions,
-            has_codes,
-            has_datas,
-            has_data_counts,
-            in_code: byte_of(checkpoint.in_code),
         }
     }
 

@@ -29,8 +29,7 @@ pub trait ShortText {
         // Proved: the text of an event, of a fault and of a number is written from its place on,
         //   and what is before it stays; that of a part that was skipped is that of its event
         //   [`written` of `ShortText` for `FrameLine`, `FaultLine` (`report_text`) and
-        //   `SkippedLine` (`skip_text`), of `write_payload`, `write_fault`, `write_word` and
-        //   `write_number`]
+        //   `SkippedLine` (`skip_text`), of `write_word` and `write_number`]
         ensures written { take result bytes.new ≡ take at bytes.old ++ text self.now };
 }
 

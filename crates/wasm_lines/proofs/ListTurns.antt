@@ -3,7 +3,7 @@ use Rattle.wasm_lines.proofs.Common.{◌≡◌, ℕ, Bool, List, [], Ok, Err, So
 use Rattle.wasm_lines.proofs.Common.{cut, line_of, ListError, Error, Feed}
 use Rattle.wasm_lines.specs.ListStream.{TakesTurn, lister}
 use Rattle.wasm_streams.proofs.ForCallers.{MetBy, cut_short, end_cut, line_advanced, listed_all, meets, no_memory}
-use Rattle.wasm_streams.specs.Progress.{ReadOn, ReadsOn}
+use Rattle.wasm_streams.specs.Progress.{ReadOn, ReadsOnAnywhere}
 use Rattle.wasm_streams.specs.Step.{Part, Told}
 use Rattle.wasm_streams.specs.Turns.{turn_after}
 use Rattle.wasm_streams.specs.Visits.{GivesOut, MeetsRequest, Taken, TakesStep}
@@ -49,7 +49,7 @@ module _ {V W : Type 0} (page : V → List ℕ) (taken : W → Option (List ℕ)
       (cut line_of input.before input.after (taken start) (taken before) e (page old) going.progress (taken after) why c)
 
   pub requests : (old new : V) (before after : W) (input : Device) (f g : Feed) (result : Result (Option Error) ListError)
-      → ReadsOn line_of (bytes_of input) (from_to (taken before) (taken after)) f (page old) g (page new) result
+      → ReadsOnAnywhere line_of (bytes_of input) (from_to (taken before) (taken after)) f (page old) g (page new) result
       → input.has_failed ≡ input_failed result input.had_failed → failed after ≡ output_failed result (failed before)
       → MeetsRequest (writer_stages writer) old before input f result new after g
   requests old new before after input f g result reads source sink =

@@ -21,29 +21,28 @@ use Rattle.wasm_streams.proofs.ForCallers.{cut_at_end, dropped_before, listed_to
 use Rattle.wasm_lines.proofs.ForCallers.{skipped_text}
 
 -- the bytes of a step are those that it sees
-pub dropped_here : (old : Cursor) (stored chunk items rest bytes : List ℕ) (d : Dropped) (new : Cursor) → bytes ≡ seen items rest
+pub dropped_here : {old : Cursor} {stored chunk items rest bytes : List ℕ} {d : Dropped} {new : Cursor} → bytes ≡ seen items rest
     → items ≡ stored → rest ≡ chunk → DropsHere old bytes d new → DropsHere old (seen stored chunk) d new
-dropped_here old stored chunk items rest bytes d new read items_are rest_is h = rw (sym rest_is, sym items_are, sym read) h
+dropped_here read items_are rest_is h = rw (sym rest_is, sym items_are, sym read) h
 
 -- A caller has written the page, and the parser has skipped a part that is dropped.
-module _ (source rest taken written : Option (List ℕ)) (c : Cursor) (stored chunk : List ℕ)
-    (w : Wants (listing_by line_of) (from_to source rest) (from_to taken written) (lending stored chunk c) []) (dropped : Dropped)
-    (skipped : Cursor)
-    (h : DropsHere c (seen stored chunk) dropped skipped) (waiting : List ℕ) (nothing : waiting ≡ []) (rest' : Option (List ℕ)) where
+abbrev stays_if : Head → Bool
+stays_if head = false
+
+module _ {source rest taken written : Option (List ℕ)} {c : Cursor} (stored chunk : List ℕ)
+    (w : Wants (listing_by line_of) (from_to source rest) (from_to taken written) (lending stored chunk c) []) {dropped : Dropped}
+    {skipped : Cursor} (h : DropsHere c (seen stored chunk) dropped skipped) {waiting : List ℕ} (nothing : waiting ≡ []) where
   abbrev passing : Passing
   passing = dropped.passing
-
-  abbrev stays_if : Head → Bool
-  stays_if head = false
 
   abbrev k : SkipsHere stays_if c (seen stored chunk) passing skipped
   k = h.skips
 
   -- the source failed within the part
-  pub given_up : (written' : Option (List ℕ)) (e : ListError) (left page : List ℕ)
+  pub given_up : {rest' written' : Option (List ℕ)} {e : ListError} {left page : List ℕ}
       → GivesUp rest rest' written written' passing.stays passing.size (held_by skipped stored chunk) waiting e left page
       → ListsBy line_of (from_to source rest') (from_to taken written') (Err e)
-  given_up written' e left page g =
+  given_up {rest'} {written'} {e} {left} {page} g =
       let (is, wrote, fewer) = dropped_before written written' passing.stays passing.size waiting g.passed left page
       (held_by skipped stored chunk) g.given e g.ends g.parts k.stays in
       let all = w.puts.waits ∙ append-nil w.puts.moved in
@@ -58,7 +57,7 @@ module _ (source rest taken written : Option (List ℕ)) (c : Cursor) (stored ch
       })
 
   -- the part was passed, or the source ended within it
-  module _ (mid : Option (List ℕ)) (how_cut : Option Error) (left page : List ℕ)
+  module _ {rest' mid : Option (List ℕ)} {how_cut : Option Error} {left page : List ℕ}
       (x : PassesPart rest rest' written mid passing skipped stored chunk waiting how_cut left page) where
     none : (x.puts.moved ≡ []) × (page ≡ [])
     none = none_put written mid passing.stays waiting x.part page x.puts k.stays nothing
@@ -81,12 +80,12 @@ module _ (source rest taken written : Option (List ℕ)) (c : Cursor) (stored ch
         (so_far false (λ n. absurd (let no : true ≡ false = sym n in cc))) written' e (rw none.1 at v)
 
     -- the line of the part was put
-    pub line_put : how_cut ≡ None → (written' : Option (List ℕ)) (page' : List ℕ)
-        → PutsBytes mid written' page (skip_text Decimal (skip_is dropped.part) ++ codes "\n") page' → (new : Feed)
+    pub line_put : {written' : Option (List ℕ)} {page' : List ℕ} {new : Feed} → how_cut ≡ None
+        → PutsBytes mid written' page (skip_text Decimal (skip_is dropped.part) ++ codes "\n") page'
         → new.state ≡ skipped.parser → new.held ≡ left → new.eof ≡ skipped.is_finished
         → Progress (listing_by line_of) (from_to source rest') (from_to taken written') new page' × (weight new < weight
         (lending stored chunk c))
-    line_put n written' page' v new state held eof =
+    line_put {written'} {page'} {new} n v state held eof =
         let (e, says, is, after, less) = past stays_if source rest w.events c stored chunk w.asks passing skipped k x.fetched x.part left
         x.parts (rw n at x.ends) rest' x.gave new state held eof in
         let before = so_far false (λ n. absurd (let no : true ≡ false = sym n in cc)) in
@@ -104,7 +103,7 @@ module _ (source rest taken written : Option (List ℕ)) (c : Cursor) (stored ch
         )
 
     -- the source ended within the part
-    module _ (error : Error) (cuts : how_cut ≡ Some error) (written' : Option (List ℕ)) (page' : List ℕ)
+    module _ {error : Error} (cuts : how_cut ≡ Some error) {written' : Option (List ℕ)} {page' : List ℕ}
         (v : PutsBytes mid written' page (line_of (stream_end (fault (fault_at error)))) page') where
       ends : (length x.part < passing.size) × IsAtEnd rest' × (left ≡ []) × (fault_at error ≡ at_offset UnexpectedEof passing.from)
       ends = rw cuts at x.ends
@@ -116,9 +115,9 @@ module _ (source rest taken written : Option (List ℕ)) (c : Cursor) (stored ch
       put : PutsBytes mid written' [] (line_of (stream_end (fault (fault_at error)))) page'
       put = rw none.1 at v
 
-      pub listed_short : (written'' : Option (List ℕ)) → Appends written' written'' page'
+      pub listed_short : {written'' : Option (List ℕ)} → Appends written' written'' page'
           → IsListed line_of (from_to source rest') (from_to taken written'') (Fault error)
-      listed_short written'' u = listed_to_end line_of source rest' taken mid
+      listed_short {written''} u = listed_to_end line_of source rest' taken mid
           (record (pushed (lending stored chunk c) x.fetched) { eof = true }) [] (so_far true (λ _. ends.1)) (Fault error) (fault
           (fault_at error)) at_end
           (line_of (stream_end (fault (fault_at error)))) refl written' page' put written'' u

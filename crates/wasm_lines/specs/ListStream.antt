@@ -3,7 +3,7 @@ use Rattle.std.specs.Prelude.{ℕ, Bool, List, Option, Result, Ok, Err}
 use Rattle.wasm_streams.specs.Lists.{ListsBy, listing_by}
 use Rattle.wasm_streams.specs.Turns.{text_after}
 use Rattle.wasm_streams.specs.Step.{Told}
-use Rattle.wasm_streams.specs.Writers.{Runs, Writer}
+use Rattle.wasm_streams.specs.Writers.{RunEnds, Writer}
 use Rattle.wasm_streams.specs.declared.turns.Ended.{Ended}
 use Rattle.wasm_lines.specs.Listing.{line_of}
 use Rattle.wasm_io.specs.Calls.{Change, Device}
@@ -15,7 +15,7 @@ abbrev pub line_after : Told → List ℕ
 line_after answer = text_after line_of answer
 
 -- | what a listing does after a step, and what one read did; how it reads on, past a part that it
---   skips [`Lists.Refills`; `Progress.ReadsOn`, `Dropping.DropsHere`]
+--   skips [`Lists.Refills`; `Progress.ReadsOnAnywhere`, `Dropping.DropsHere`]
 -- The line of the step was appended to the pending ones.
 abbrev pub TakesTurn : (taken written : Option (List ℕ)) (waiting new : List ℕ) → Told
     → Result (Unit {0}) ListError → Type 0
@@ -32,7 +32,7 @@ Lists input output how = ListsBy line_of input output how
 --   [`Lists`; `Lists.ListsBy`, `IsListed`, `IsWhole`, `IsAllButLast`, `IsHead`; `listing_by`]
 -- A whole listing: what it wrote of what the source gave, and whether each device has failed.
 abbrev pub ListsSource : (input output : Device) → Result Ended ListError → Type 0
-ListsSource input output how = Runs (λ i o result. Lists i o result) input output how
+ListsSource input output how = RunEnds (λ i o result. Lists i o result) input output how
 
 -- a visitor that lists, with this page, over a sink that has taken this
 abbrev pub lister : {V W : Type 0} → (page : V → List ℕ) (taken : W → Option (List ℕ)) (failed : W → Bool)

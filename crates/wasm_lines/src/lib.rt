@@ -11,7 +11,7 @@
 mod lines;
 mod listing;
 
-pub use lines::{FaultLine, FrameLine, SkippedLine, encoding_name, write_fault, write_frame};
+pub use lines::{FaultLine, FrameLine, SkippedLine, encoding_name};
 // For events that are not frames.
 pub use lines::{
     write_body, write_code, write_counted, write_custom, write_data_count, write_end, write_start,

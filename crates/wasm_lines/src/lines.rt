@@ -69,7 +69,7 @@ fn write_range(
     write_field(bytes, at, number)
 }
 
-/// Writes the line of a section that begins with a count, as `write_frame` does.
+/// Writes the line of a section that begins with a count, as `FrameLine` does.
 #[inline(always)]
 pub fn write_counted(
     bytes: &mut [u8],
@@ -92,7 +92,7 @@ pub fn write_counted(
     write_field(bytes, at, u64::from(count))
 }
 
-/// Writes the line of the start of a code section, as `write_frame` does.
+/// Writes the line of the start of a code section, as `FrameLine` does.
 #[tactic(auto, unfolding(crate::specs::Listing::report_text))]
 pub fn write_code(
     bytes: &mut [u8],
@@ -114,7 +114,7 @@ pub fn write_code(
     write_field(bytes, at, u64::from(size))
 }
 
-/// Writes the line of a header, as `write_frame` does.
+/// Writes the line of a header, as `FrameLine` does.
 pub fn write_version(
     bytes: &mut [u8],
     at: usize,
@@ -134,7 +134,7 @@ pub fn write_version(
     write_word(bytes, at, encoding_name(encoding))
 }
 
-/// Writes the line of a start section, as `write_frame` does.
+/// Writes the line of a start section, as `FrameLine` does.
 pub fn write_start(bytes: &mut [u8], at: usize, base: Base, range: &Range<u64>, func: u32) -> usize
     requires { at + 100 ≤ length bytes.old }
     ensures short { result ≤ at + 100 }
@@ -144,7 +144,7 @@ pub fn write_start(bytes: &mut [u8], at: usize, base: Base, range: &Range<u64>, 
     write_range(bytes, at, base, "start", range, u64::from(func))
 }
 
-/// Writes the line of a data count section, as `write_frame` does.
+/// Writes the line of a data count section, as `FrameLine` does.
 pub fn write_data_count(
     bytes: &mut [u8],
     at: usize,
@@ -160,7 +160,7 @@ pub fn write_data_count(
     write_range(bytes, at, base, "datacount", range, u64::from(count))
 }
 
-/// Writes the line of a body, as `write_frame` does.
+/// Writes the line of a body, as `FrameLine` does.
 #[inline(always)]
 pub fn write_body(bytes: &mut [u8], at: usize, base: Base, range: &Range<u64>) -> usize
     requires { at + 100 ≤ length bytes.old }
@@ -173,7 +173,7 @@ pub fn write_body(bytes: &mut [u8], at: usize, base: Base, range: &Range<u64>) -
     write_place(bytes, at, base, range.end)
 }
 
-/// Writes the line of a custom section, as `write_frame` does.
+/// Writes the line of a custom section, as `FrameLine` does.
 #[inline(always)]
 pub fn write_custom(
     bytes: &mut [u8],
@@ -194,7 +194,7 @@ pub fn write_custom(
     write_place(bytes, at, base, data_offset)
 }
 
-/// Writes the line of an unknown section, as `write_frame` does.
+/// Writes the line of an unknown section, as `FrameLine` does.
 #[inline(always)]
 pub fn write_unknown(bytes: &mut [u8], at: usize, base: Base, id: u8, range: &Range<u64>) -> usize
     requires { at + 100 ≤ length bytes.old }
@@ -208,7 +208,7 @@ pub fn write_unknown(bytes: &mut [u8], at: usize, base: Base, id: u8, range: &Ra
     write_place(bytes, at, base, range.end)
 }
 
-/// Writes the line of the end, as `write_frame` does.
+/// Writes the line of the end, as `FrameLine` does.
 pub fn write_end(bytes: &mut [u8], at: usize, base: Base, offset: u64) -> usize
     requires { at + 100 ≤ length bytes.old }
     ensures short { result ≤ at + 100 }
@@ -219,25 +219,10 @@ pub fn write_end(bytes: &mut [u8], at: usize, base: Base, offset: u64) -> usize
     write_place(bytes, at, base, offset)
 }
 
-/// Writes the line of a frame at the index `at` of `bytes`, with offsets in this base and without a line feed, and
-/// returns the index after it.
-///
-/// From `at` on there must be 100 bytes. Later bytes may be overwritten.
-///
-/// ```rattle
-/// let mut bytes = [0; 100];
-/// let mut parser = StoredParser::new(0);
-/// match parser.next(b"\0asm\x01\0\0\0", true) {
-///     NextFrame::Parsed { frame, .. } => {
-///         let end = write_frame(&mut bytes, 0, Base::Decimal, &frame);
-///         assert_eq!(rt; &bytes[..end], b"version 0 8 1 module".as_slice());
-///     }
-///     _ => assert!(rt; false),
-/// }
-/// ```
+// Writes the line of a frame.
 #[inline(always)]
 #[tactic(auto, unfolding(crate::specs::Listing::report_text))]
-pub fn write_frame(bytes: &mut [u8], at: usize, base: Base, frame: &Frame<'_>) -> usize
+fn write_frame(bytes: &mut [u8], at: usize, base: Base, frame: &Frame<'_>) -> usize
     requires { at + 100 ≤ length bytes.old }
     ensures short { result ≤ at + 100 }
     ensures written { take result bytes.new ≡ take at bytes.old ++ report_text base frame.now }
@@ -290,19 +275,9 @@ fn write_fault_number(bytes: &mut [u8], at: usize, number: Option<u64>) -> usize
     }
 }
 
-/// Writes the line of a fault at the index `at` of `bytes`, with its offset in this base and without a line feed, and
-/// returns the index after it: `fault`, the offset, the message, and the number if there is one.
-///
-/// From `at` on there must be 159 bytes. Later bytes may be overwritten.
-///
-/// ```rattle
-/// let mut bytes = [0; TEXT_BYTES];
-/// let error = Error::new(Fault::BadMagic, 16);
-/// let end = write_fault(&mut bytes, 0, Base::Hexadecimal, &error);
-/// assert!(rt; bytes[..end].starts_with(b"fault 0x10 magic header not detected"));
-/// ```
+// Writes the line of a fault: `fault`, the offset, the message, and the number if there is one.
 #[tactic(auto, unfolding(crate::specs::Listing::report_text))]
-pub fn write_fault(bytes: &mut [u8], at: usize, base: Base, error: &Error) -> usize
+fn write_fault(bytes: &mut [u8], at: usize, base: Base, error: &Error) -> usize
     requires { at + 159 ≤ length bytes.old }
     ensures short { result ≤ at + 159 }
     ensures written { take result bytes.new ≡ take at bytes.old
@@ -369,7 +344,15 @@ impl ShortText for SkippedLine<'_, '_> {
     }
 }
 
-/// The line of the fault at which a stream ends, without its line feed.
+/// The line of the fault at which a stream ends, without its line feed: `fault`, the offset, the message, and the number
+/// if there is one.
+///
+/// ```rattle
+/// let mut bytes = [0; TEXT_BYTES];
+/// let line = FaultLine { base: Base::Hexadecimal, error: &Error::new(Fault::BadMagic, 16) };
+/// let end = line.write_at(&mut bytes, 0);
+/// assert!(rt; bytes[..end].starts_with(b"fault 0x10 magic header not detected"));
+/// ```
 #[derive(Clone, Copy)]
 pub struct FaultLine<'a> {
     /// The base of the offset.

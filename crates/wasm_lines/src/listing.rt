@@ -7,7 +7,7 @@ ghost use Rattle.wasm_io.specs.declared.digits.Base.TheVariants.{Decimal};
 ghost use Rattle.wasm_frames.specs.SkipNext.{skip_is};
 ghost use Rattle.wasm_streams.specs.Beside.{beside, lending};
 ghost use Rattle.wasm_streams.specs.Cursors.{feed_of};
-ghost use Rattle.wasm_streams.specs.Progress.{ReadsOn};
+ghost use Rattle.wasm_streams.specs.Progress.{ReadsOnAnywhere};
 ghost use Rattle.wasm_streams.specs.Step.{Stop};
 ghost use Rattle.wasm_streams.specs.Writers.{writer_stages};
 ghost use Rattle.wasm_lines.specs.Dropping.{DropsIfAny};
@@ -70,7 +70,7 @@ fn without_name(part: SkippedPart<'_>) -> SkippedPart<'static>
 fn skip_dropped(cursor: &mut Cursor, bytes: &[u8]) -> Option<Dropped>
     // Proved: when they look, `list` and `edit_stream` skip the part at the cursor whenever
     //   `skip_next` can skip it. `edit_stream` reads more only if it can't [the clauses of
-    //   `skip_dropped` and `skip_part` (`DropsIfAny`, `SkipsIfAny`: `SkipsNothing`); `reads`,
+    //   `skip_dropped` and `skip_part` (`DropsIfAny`, `SkipsEdited`: `SkipsNothing`); `reads`,
     //   `stops` on `read_or_pass` (`ReadsOrPasses`, `StopsHere`). All three are private]
     ensures { DropsIfAny cursor.old bytes.now result cursor.new }
 {
@@ -105,7 +105,7 @@ fn read_on<A: Allocator, R: Source, W: Sink>(
     output: &mut W,
 ) -> Result<Option<Error>, ListError>
     requires { vec_len stored.old + length ahead.old ≤ vec_capacity stored.old }
-    ensures reads { ReadsOn line_of (change_of R.remaining input.old input.new)
+    ensures reads { ReadsOnAnywhere line_of (change_of R.remaining input.old input.new)
         (change_of W.taken output.old output.new)
         (lending stored.old.items ahead.old cursor.old) page.old
         (beside (feed_of stored.new.items cursor.new) ahead.new)

@@ -7,7 +7,7 @@ use Rattle.wasm_io.specs.Calls.{Device, from_to}
 use Rattle.std.proofs.KnownBytes.{Appends-kept}
 use Rattle.wasm_console.specs.Devices.{over, Follows, IsUntouched}
 use Rattle.wasm_io.specs.Messages.{Says}
-use Rattle.wasm_console.specs.Endings.{RunsUsage, Flushes, FailsToFlush, LeavesAlone, Finishes, status_for}
+use Rattle.wasm_console.specs.Endings.{RunsUsage, FlushesOutput, FailsToFlush, LeavesAlone, Finishes, status_for}
 use Rattle.wasm_list.specs.ListCommands.{Asked}
 use Rattle.wasm_list.specs.ListRuns.{RunsListingAs, Runs, EndsAs, ListsAll, RunsThenFlushes, RunsWhole, usage}
 use Rattle.wasm_streams.specs.declared.turns.Ended.{Ended}
@@ -60,7 +60,7 @@ untouched_twice first second f u v = record { bytes = v.bytes ∙ (f.bytes ∙ u
 passes_on : (first second first_errors second_errors : Device) (how : Ended) (forwarded : Bool) (status result : ℕ) → Follows first second
     → Follows first_errors second_errors
     → first.has_failed ≡ first.had_failed → IsUntouched first_errors → status ≡ status_for (Ok how)
-    → Flushes status forwarded second second_errors result ⊎ FailsToFlush second second_errors result
+    → FlushesOutput status forwarded second second_errors result ⊎ FailsToFlush second second_errors result
     → EndsAs (Ok how) forwarded (over first second) (over first_errors second_errors) result
 passes_on first second first_errors second_errors how forwarded status result f fe sink silent answers (inl h) = inl (record {
   answers = h.answers ∙ answers;
@@ -133,11 +133,11 @@ flushed_after runs first second first_errors second_errors forwarded status resu
   ends = finish;
 }
 
-pub program : (asked : Asked) (input first second first_errors second_errors : Device) (forwarded : Bool) (status result : ℕ)
+pub program : {asked : Asked} {input first second first_errors second_errors : Device} {forwarded : Bool} {status result : ℕ}
     → Follows first second → Follows first_errors second_errors
     → Runs asked input first first_errors status → Finishes status forwarded second second_errors result
     → RunsWhole asked forwarded input (over first second) (over first_errors second_errors) result
-program asked input first second first_errors second_errors forwarded status result f fe runs finish = record {
+program {asked} {input} {first} {second} {first_errors} {second_errors} {forwarded} {status} {result} f fe runs finish = record {
   lists = λ c. let r = runs.lists c in listed_all input first second first_errors second_errors forwarded status result f fe r.how
       r.runs finish;
   strips = λ c. flushed_after _ first second first_errors second_errors forwarded status result f fe (runs.strips c) finish;

@@ -7,7 +7,8 @@ use Rattle.wasm_lines.specs.ListStream.{Lists, ListsSource}
 use Rattle.wasm_edits.specs.Fates.{custom_stays}
 use Rattle.wasm_streams.specs.declared.turns.Ended.{Ended}
 use Rattle.wasm_console.specs.Devices.{over, Follows}
-use Rattle.wasm_console.specs.Endings.{status_for, Reports, RunsUsage, CannotBegin, Flushes, FailsToFlush, Finishes}
+use Rattle.wasm_console.specs.Endings.{status_for, ReportsEnd, RunsUsage, CannotBegin, FlushesOutput, FailsToFlush}
+use Rattle.wasm_console.specs.Endings.{Finishes}
 use Rattle.wasm_console.specs.Strips.{AnswersAs, StripsInput}
 use Rattle.wasm_console.specs.declared.arguments.Given.{Given}
 use Rattle.wasm_console.specs.declared.arguments.Given.TheVariants.{Words, NotUtf8, Nothing}
@@ -21,7 +22,7 @@ usage = codes "usage: wasm_list [strip]\n"
 pub record RunsListingAs (how : Result Ended ListError) (input output errors : Device) (status : ℕ) : Type 0 where
   pub lists : ListsSource input output how
   pub answers : status ≡ status_for how
-  pub reports : Reports how errors
+  pub reports : ReportsEnd how errors
 
 -- a run that listed its input
 pub record RunsListing (input output errors : Device) (status : ℕ) : Type 0 where
@@ -35,7 +36,7 @@ pub record RunsStripping (input output errors : Device) (status : ℕ) : Type 0 
   pub answers : AnswersAs how errors status
 
 -- | what a run of `wasm_list` does, also with the program's own name and arguments that might not be available
---   [`RunsProgram`, `RunsThenFlushes`]
+--   [`RunsListProgram`, `RunsThenFlushes`]
 -- a run that was asked for this
 pub record Runs (asked : Asked) (input output errors : Device) (status : ℕ) : Type 0 where
   pub lists : asked ≡ listing → RunsListing input output errors status
@@ -51,7 +52,7 @@ pub record GivesUp (why : ListError) (output errors : Device) (status : ℕ) : T
 -- The end of a run whose listing ended so: the listing is flushed before the status is 0 or 1.
 abbrev pub EndsAs : Result Ended ListError → (forwarded : Bool) (output errors : Device) (status : ℕ) → Type 0
 EndsAs (Ok how) forwarded output errors status =
-    Flushes (status_for (Ok how)) forwarded output errors status ⊎ FailsToFlush output errors status
+    FlushesOutput (status_for (Ok how)) forwarded output errors status ⊎ FailsToFlush output errors status
 EndsAs (Err why) forwarded output errors status = GivesUp why output errors status
 
 -- the whole program, where it lists its input
@@ -81,16 +82,16 @@ pub record RunsWhole (asked : Asked) (forwarded : Bool) (input output errors : D
   pub refuses : asked ≡ unknown → RunsUsage usage input output errors status
 
 -- the whole program, by what was stored of its arguments
-abbrev pub RunsGiven : Given → (forwarded : Bool) (input output errors : Device) (status : ℕ) → Type 0
-RunsGiven (Words words) forwarded input output errors status =
+abbrev pub RunsGivenList : Given → (forwarded : Bool) (input output errors : Device) (status : ℕ) → Type 0
+RunsGivenList (Words words) forwarded input output errors status =
     RunsWhole (asked_by (map string_bytes words.items)) forwarded input output errors status
-RunsGiven NotUtf8 forwarded input output errors status = RunsWhole unknown forwarded input output errors status
-RunsGiven Nothing forwarded input output errors status = CannotBegin input output errors status
+RunsGivenList NotUtf8 forwarded input output errors status = RunsWhole unknown forwarded input output errors status
+RunsGivenList Nothing forwarded input output errors status = CannotBegin input output errors status
 
 -- The whole program, which was asked for this if the arguments could be fetched, or one was not UTF-8; or an allocation
 -- failed before that was known.
-abbrev pub RunsProgram : Option Asked → (needs_memory : Type 0) (forwarded : Bool) (input output errors : Device)
+abbrev pub RunsListProgram : Option Asked → (needs_memory : Type 0) (forwarded : Bool) (input output errors : Device)
     (status : ℕ) → Type 0
-RunsProgram (Some asked) needs_memory forwarded input output errors status =
+RunsListProgram (Some asked) needs_memory forwarded input output errors status =
     RunsWhole asked forwarded input output errors status ⊎ (needs_memory × CannotBegin input output errors status)
-RunsProgram None needs_memory forwarded input output errors status = CannotBegin input output errors status
+RunsListProgram None needs_memory forwarded input output errors status = CannotBegin input output errors status

@@ -5,7 +5,7 @@ ghost use Rattle.std.specs.Vec.Iter.{into_iter_items};
 ghost use Rattle.wasm_console.specs.Arguments.{WantsMemory};
 ghost use Rattle.wasm_console.specs.Strips.{AnswersAs};
 ghost use Rattle.wasm_list.specs.ListCommands.{asked_by, asked_if_any, asked_of};
-ghost use Rattle.wasm_list.specs.ListRuns.{Runs, RunsGiven, RunsListing, RunsProgram, RunsStripping, RunsWhole};
+ghost use Rattle.wasm_list.specs.ListRuns.{Runs, RunsGivenList, RunsListing, RunsListProgram, RunsStripping, RunsWhole};
 ghost use Rattle.wasm_io.specs.Calls.{device_of, writer_device};
 
 use crate::command::{Command, command_of};
@@ -37,7 +37,7 @@ pub(crate) fn run_program<R: Source, W: Write, E: Sink>(
     // Proved: `run_program` is the whole program over any devices: which bytes it reads and writes,
     //   what it prints, and its status, for all arguments; `main` only passes it the arguments and
     //   the standard streams
-    ensures { RunsProgram (asked_if_any (λ args. map string_bytes (into_iter_items args)) arguments)
+    ensures { RunsListProgram (asked_if_any (λ args. map string_bytes (into_iter_items args)) arguments)
         (WantsMemory (λ args. map string_bytes (into_iter_items args)) arguments)
         output.new.forwarded
         (device_of R.remaining R.has_failed input.old input.new)
@@ -55,7 +55,7 @@ fn run_given<R: Source, W: Write, E: Sink>(
     output: &mut WriteSink<W>,
     errors: &mut E,
 ) -> ExitCode
-    ensures { RunsGiven given output.new.forwarded
+    ensures { RunsGivenList given output.new.forwarded
         (device_of R.remaining R.has_failed input.old input.new)
         (writer_device W.contents output.old output.new)
         (device_of E.taken E.has_failed errors.old errors.new) (exit_status result) }

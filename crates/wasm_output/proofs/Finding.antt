@@ -340,7 +340,3 @@ finds_stopped a b x y None f is g since notes h = tt
 finds_stopped a b x None (Some now) f is g since notes h = absurd (never_noted b now g)
 finds_stopped a b x (Some mid) (Some now) f is g since notes h =
     same_noted since mid now (notes ++ a) b is (g mid [] (noted_nothing mid)) (f since notes h)
-
--- a tree of other things keeps no notes
-pub finds_never : (more : List Note) (x y : Option Noted) → y ≡ None → Finds more x y
-finds_never more x y e since notes h = subst (λ (z : Option Noted). HasNotedIf since (notes ++ more) z) (sym e) tt

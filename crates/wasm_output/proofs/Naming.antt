@@ -1,7 +1,7 @@
 -- What names are after one was added, by the keys of a map.
-use Rattle.wasm_output.proofs.Common.{◌≡◌, ℕ, ◌<◌, Bool, true, false, nat_eq, refl, arith, ◌≤◌, List, sym, ap, ◌∙◌, ◌^◌, nat_lt, ◌≢◌, Option}
+use Rattle.wasm_output.proofs.Common.{◌≡◌, ℕ, ◌<◌, Bool, true, false, nat_eq, refl, arith, ◌≤◌, List, sym, ap, ◌∙◌, ◌^◌, nat_lt, ◌≢◌}
 use Rattle.wasm_output.proofs.Common.{Some, None, UpdatesBy, get_by, is_some, unwrap_or, if◌then◌else◌, key_cmp, names_in, AddsName, named}
-use Rattle.wasm_output.proofs.Common.{Number, Space}
+use Rattle.wasm_output.proofs.Common.{Number, Option, Space}
 use Rattle.std.proofs.Common.{◌⊎◌, cond}
 use Rattle.std.proofs.lemmas.Bool.{cases_Bool, false_from_ne_true, le-ltb, lt-ltb, true≢false}
 use Rattle.std.proofs.lemmas.Map.Lookups.{exact_pairs, exact_unsigned}

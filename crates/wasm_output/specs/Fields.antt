@@ -49,7 +49,12 @@ abbrev pub flag_text : Bool → List ℕ
 flag_text true = codes "true"
 flag_text false = codes "false"
 
--- a value, in a text with offsets in this base; raw bytes are their count and the first 16
+-- the mark after the first 16 bytes, if there are more
+abbrev pub cut_mark : (count : ℕ) → List ℕ
+cut_mark count = if nat_lt 16 count then codes ".." else []
+
+-- a value, in a text with offsets in this base; raw bytes are their count and the first 16, with a mark if there are
+-- more
 abbrev pub value_text : Value → Base → List ℕ
 value_text (number n) base = decimal n
 value_text (signed z) base = signed_decimal z
@@ -58,7 +63,8 @@ value_text (word text) base = text
 value_text (flag b) base = flag_text b
 value_text nothing base = codes "none"
 value_text (range start end) base = offset_text base start ++ (codes ".." ++ offset_text base end)
-value_text (raw bytes) base = decimal (length bytes) ++ (codes ":" ++ flat_map hexadecimal (take 16 bytes))
+value_text (raw bytes) base = decimal (length bytes)
+    ++ (codes ":" ++ (flat_map hexadecimal (take 16 bytes) ++ cut_mark (length bytes)))
 
 -- what comes before the value of a field
 abbrev pub field_start : (name : List ℕ) → List ℕ

@@ -3,7 +3,7 @@ ghost use Rattle.std.specs.Prelude.{◌≡◌, ◌++◌, ◌∷◌, [], None, co
 ghost use Rattle.std.specs.List.{flat_map};
 ghost use Rattle.std.specs.Fmt.{signed_decimal};
 ghost use Rattle.std.specs.Option.{is_some};
-ghost use Rattle.wasm_output.specs.Fields.{alone, field_start, field_text, named, number as number_value, word as word_value, quoted, raw};
+ghost use Rattle.wasm_output.specs.Fields.{alone, cut_mark, field_start, field_text, named, number as number_value, word as word_value, quoted, raw};
 ghost use Rattle.wasm_output.specs.Fields.{range, signed as signed_value, flag as flag_value, number_if_any as optional, hexadecimal, is_default as is_default_value};
 ghost use Rattle.wasm_io.specs.Offsets.{offset_text};
 ghost use Rattle.wasm_base.specs.FaultAt.{fault_at};
@@ -457,7 +457,20 @@ pub trait Tree {
         self.field(name, Value::Quoted(text));
     }
 
-    /// Writes a field with bytes as its value: their number, a colon, and the first 16 in hexadecimal.
+    /// Writes, in lines, the mark after the bytes that are shown, if there are more.
+    final fn cut_mark(&mut self, count: usize)
+        ensures adds { Adds (writing self.old) (writing self.new) }
+        ensures says { Says (cut_mark count) (writing self.old) (writing self.new) }
+    {
+        if count > SHOWN {
+            if let Style::Lines(_) = self.style() {
+                self.text("..");
+            }
+        }
+    }
+
+    /// Writes a field with bytes as its value: their number, a colon, and the first 16 in hexadecimal. In lines `..`
+    /// follows if there are more.
     final fn raw(&mut self, name: &str, bytes: &[u8])
         requires one_line { has_line_feed name.now ≡ false }
         ensures adds { Adds (writing self.old) (writing self.new) }
@@ -468,6 +481,7 @@ pub trait Tree {
         self.digits(bytes.len() as u64);
         self.text(":");
         self.hexadecimals(first_bytes(bytes));
+        self.cut_mark(bytes.len());
     }
 
     /// Writes a field with a range of offsets as its value, in bytes from the start of the stream.

@@ -125,7 +125,6 @@ pub use wasm_custom::SymbolInfo;
 pub use wasm_custom::SymbolInfoMap;
 pub use wasm_custom::TargetFeature;
 pub use wasm_custom::TargetFeaturesSectionReader;
-pub use wasm_frames::Checkpoint;
 pub use wasm_frames::Frame;
 pub use wasm_frames::FrameKind;
 pub use wasm_frames::NextFrame;

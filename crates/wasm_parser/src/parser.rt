@@ -5,7 +5,6 @@ ghost use Rattle.wasm_base.specs.Features.{feature_bits, all_features};
 ghost use Rattle.wasm_base.specs.Window.{window_over};
 ghost use Rattle.wasm_frames.specs.Answer.{AsksForSome, Consumes, FaultsWithin, IsUnchanged};
 ghost use Rattle.wasm_frames.specs.AsksWhereOpen.{AsksWhereOpen};
-ghost use Rattle.wasm_frames.specs.Checkpoint.{state_of};
 ghost use Rattle.wasm_frames.specs.GivesNextEvent.{GivesNextEvent};
 ghost use Rattle.wasm_frames.specs.ParserState.{initial_state, skippable_of, skipped_state};
 ghost use Rattle.wasm_frames.specs.SkipNext.{SkipsNext, skip_is, skip_of, state_after_skip};
@@ -22,7 +21,7 @@ use bitflags::Flags;
 use std::alloc::AllocError;
 use std::marker::Model;
 use wasm_base::{BinaryReader, Result, WasmFeatures};
-use wasm_frames::{Checkpoint, FrameKind, NextFrame, SkippedPart, StoredParser};
+use wasm_frames::{FrameKind, NextFrame, SkippedPart, StoredParser};
 use wasm_grammar::{COMPONENT_HEADER, CORE_HEADER};
 
 /// A parser of a module or component, one part at a time (core specification, Binary format, Modules).
@@ -271,31 +270,6 @@ impl Parser {
         ensures skips { SkipsNext self.old bytes.now (option_map skip_is result) self.new }
     {
         self.stored.skip_settled(bytes)
-    }
-
-    /// Returns the state of the parser as plain values. `resume` makes a parser from them that continues as this one
-    /// does.
-    pub fn checkpoint(&self) -> Checkpoint
-        // Proved: `checkpoint` is all that a parser knows, and `resume` the parser that knows
-        //   exactly that; its precondition is that the remaining bytes of a code section end below
-        //   the largest offset [the clauses of both (`state_of`)]
-        ensures state { state_of result ≡ self.now }
-        ensures fits { result.offset + result.code_bytes < 2 ^ 64 }
-    {
-        self.stored.checkpoint()
-    }
-
-    /// Returns the parser that this checkpoint describes.
-    ///
-    /// The remaining bytes of a code section must end within the offsets of a stream: `offset + code_bytes` must be
-    /// below 2^64. Every checkpoint that `checkpoint` returns is such.
-    pub fn resume(checkpoint: Checkpoint) -> Self
-        requires { checkpoint.offset + checkpoint.code_bytes < 2 ^ 64 }
-        ensures { result ≡ state_of checkpoint }
-    {
-        Parser {
-            stored: StoredParser::resume(checkpoint),
-        }
     }
 
     /// Returns the parser as numbers, which a program in another language can keep.

@@ -1,6 +1,6 @@
 // What a parser says of a stream.
 ghost use Rattle.std.specs.Prelude.{◌≡◌};
-ghost use Rattle.wasm_frames.specs.Frame.{HoldsCount, counted_in as counted_frame};
+ghost use Rattle.wasm_frames.specs.Frame.{HoldsCount, counted_frame};
 ghost use Rattle.wasm_parser.specs.ParseAnswer.{IsPayload, counted_in, report_of};
 ghost use Rattle.wasm_grammar.specs.Reading.{counted};
 ghost use Rattle.wasm_grammar.specs.Sections.{parts_of, section_of};

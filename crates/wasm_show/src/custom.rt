@@ -19,7 +19,7 @@ use wasm_custom::{
     ProducersField, ProducersFieldValue, ProducersSectionReader, TargetFeature,
     TargetFeaturesSectionReader,
 };
-use wasm_output::Tree;
+use wasm_output::{Space, Tree};
 
 impl Show for BranchHint {
     fn show<O: Tree>(&self, _level: usize, out: &mut O)
@@ -36,6 +36,7 @@ impl Show for BranchHint {
 impl Show for BranchHintFunction<'_> {
     fn show<O: Tree>(&self, level: usize, out: &mut O) {
         out.number("func", u64::from(self.func));
+        out.item_name(Space::Functions, u64::from(self.func));
         show_list("hints", level, &self.hints, out);
     }
 }

@@ -10,14 +10,15 @@ ghost use Rattle.wasm_output.specs.Said.{SaysFields, SaysInBase, SaysWith};
 ghost use Rattle.wasm_output.specs.Tree.{Adds, has_line_feed};
 
 use crate::expressions::show_expr;
-use crate::lists::{show_extent, show_list, show_section, under};
+use crate::lists::{show_extent, show_fault, show_list, show_section, under};
 use crate::show::Show;
 use crate::types::wide;
+use wasm_base::{Result, SectionLimited};
 use wasm_items::{
     Data, DataKind, Element, ElementItems, ElementKind, Export, ExternalKind, Global as GlobalItem,
     Import, ImportItemCompact, Imports, Table, TableInit, TypeRef,
 };
-use wasm_output::Tree;
+use wasm_output::{Space, Tree};
 
 // Returns the name of an external kind in the text format.
 fn kind_word(kind: &ExternalKind) -> &'static str
@@ -148,16 +149,34 @@ impl Show for GlobalItem<'_> {
     }
 }
 
+// Writes the fields of an export.
+fn show_export<O: Tree>(export: &Export<'_>, out: &mut O)
+    ensures adds { Adds (O.writing out.old) (O.writing out.new) }
+    // Proved: what the line of an export says before the name of what is exported
+    ensures says { SaysFields (export_fields (export_parts export.now))
+        (O.writing out.old) (O.writing out.new) }
+{
+    out.quoted("name", export.name);
+    show_kind(&export.kind, out);
+    out.number("index", u64::from(export.index));
+}
+
+// Returns the index space of an external kind.
+fn kind_space(kind: &ExternalKind) -> Space {
+    match kind {
+        ExternalKind::Func | ExternalKind::FuncExact => Space::Functions,
+        ExternalKind::Table => Space::Tables,
+        ExternalKind::Memory => Space::Memories,
+        ExternalKind::Global => Space::Globals,
+        ExternalKind::Tag => Space::Tags,
+    }
+}
+
+/// Writes the fields of the item, and the name of what is exported, if the tree has it.
 impl Show for Export<'_> {
-    fn show<O: Tree>(&self, _level: usize, out: &mut O)
-        ensures adds { Adds (O.writing out.old) (O.writing out.new) }
-        // Proved: what the line of an export says
-        ensures says { SaysFields (export_fields (export_parts self.now))
-            (O.writing out.old) (O.writing out.new) }
-    {
-        out.quoted("name", self.name);
-        show_kind(&self.kind, out);
-        out.number("index", u64::from(self.index));
+    fn show<O: Tree>(&self, _level: usize, out: &mut O) {
+        show_export(self, out);
+        out.item_name(kind_space(&self.kind), u64::from(self.index));
     }
 }
 
@@ -192,12 +211,38 @@ fn show_elements_extent<O: Tree>(items: &ElementItems<'_>, out: &mut O)
     }
 }
 
+// Writes a function that an element segment refers to, with its name, if the tree has it.
+fn show_function<O: Tree>(level: usize, function: &Result<(u64, u32)>, out: &mut O)
+    ensures { Adds (O.writing out.old) (O.writing out.new) }
+{
+    match function {
+        Ok((offset, index)) => {
+            out.item(level, *offset);
+            index.show(level, out);
+            out.item_name(Space::Functions, u64::from(*index));
+        }
+        Err(e) => show_fault(level, e, out),
+    }
+}
+
+// Writes the functions of an element segment.
+fn show_functions<O: Tree>(level: usize, indices: &SectionLimited<'_, u32>, out: &mut O)
+    ensures { Adds (O.writing out.old) (O.writing out.new) }
+{
+    for function in indices.clone().unwrap().into_iter_with_offsets() {
+        if out.has_stopped() {
+            break;
+        }
+        show_function(level, &function, out);
+    }
+}
+
 // Writes the items of an element segment.
 fn show_elements<O: Tree>(level: usize, items: &ElementItems<'_>, out: &mut O)
     ensures { Adds (O.writing out.old) (O.writing out.new) }
 {
     match items {
-        ElementItems::Functions(indices) => show_section(level, indices, out),
+        ElementItems::Functions(indices) => show_functions(level, indices, out),
         ElementItems::Expressions(_, expressions) => show_section(level, expressions, out),
     }
 }

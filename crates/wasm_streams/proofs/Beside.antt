@@ -68,12 +68,12 @@ ready old piece (x ∷ xs) count c within first same state eof wants sees stores
 -- ---- a step
 
 -- what the cursor says of a step is what the feeder beside the chunk does
-pub both : (f : Feed) (stored piece items rest bytes : List ℕ) (old new : Cursor) (x : Told) → lending stored piece old ≡ f
+pub both : {f : Feed} {stored piece items rest bytes : List ℕ} (old new : Cursor) {x : Told} → lending stored piece old ≡ f
     → ReadsEnough stored piece old → bytes ≡ seen items rest → items ≡ stored → rest ≡ piece
     → GivesAnswer old.parser old.is_finished (drop old.mark bytes) (answer_of x) new.parser
     → drop old.mark bytes ≡ shown x ++ drop new.mark bytes → new.is_finished ≡ old.is_finished → new.wants_more ≡ is_request x
     → Moves f x (lending stored piece new)
-both f stored piece items rest bytes old new x from sees read items_are rest_is parses shows finished wants =
+both {f} {stored} {piece} {items} {rest} {bytes} old new {x} from sees read items_are rest_is parses shows finished wants =
     moves_from (lending stored piece old) f x (lending stored piece new) from (grind (arith, same, append_assoc))
   where
     same : bytes ≡ seen stored piece

@@ -5,7 +5,7 @@ use Rattle.wasm_streams.proofs.Common.{Consumes-nil, Consumes-trans, take-append
 use Rattle.wasm_streams.proofs.Common.{UnexpectedEof, IsCut, PutsBytes, WritesHead, ListError, Input, seen, held_by, Cursor, Passing}
 use Rattle.std.proofs.Common.{length-take}
 use Rattle.std.proofs.KnownBytes.{Appends-trans}
-use Rattle.wasm_streams.specs.Passing.{EndsBefore, FillsChunk, GivesUp, PassesMissing, PassesPart, PutsAll, Settles, SettlesNot, PartEnds}
+use Rattle.wasm_streams.specs.Passing.{EndsAtError, FillsChunk, GivesUp, PassesMissing, PassesPart, PutsAll, Settles, SettlesNot, PartEnds}
 use Rattle.wasm_streams.specs.Passing.{TakesSome, if_stays}
 
 -- ---- bytes that are put
@@ -69,7 +69,7 @@ head_after taken mid written waiting bytes page p w =
 
 -- what was written before an error is a prefix of what waited and of the bytes that were passed and stay
 pub head_before : (taken written : Option (List ℕ)) (stays : Bool) (missing : ℕ) (waiting passed left new : List ℕ) (e : ListError)
-    → EndsBefore taken written stays missing waiting passed left new e → WritesHead taken written (waiting ++ if_stays stays passed)
+    → EndsAtError taken written stays missing waiting passed left new e → WritesHead taken written (waiting ++ if_stays stays passed)
 head_before taken written stays missing waiting passed left new e w = grind (arith, head_of_puts)
 
 -- ---- bytes that are taken from a chunk
@@ -91,7 +91,7 @@ not_filled source rest taken stays most chunk waiting left (k, none, nothing) so
 
 could_not : (taken written : Option (List ℕ)) (missing : ℕ) (waiting bytes left new : List ℕ) (e : ListError)
     → PutsAll taken written waiting bytes new (Err e) → length bytes ≤ missing
-    → EndsBefore taken written true missing waiting bytes left new e
+    → EndsAtError taken written true missing waiting bytes left new e
 could_not taken written missing waiting bytes left new e w few = grind arith
 
 -- bytes that stay could not be put
@@ -112,7 +112,7 @@ none_put taken written stays waiting part page p s z = nil_both p.moved page (rw
 
 -- a part that is dropped is given up only if the source failed
 pub dropped_before : (taken written : Option (List ℕ)) (stays : Bool) (missing : ℕ) (waiting passed left new chunk given : List ℕ)
-    (e : ListError) → EndsBefore taken written stays missing waiting passed left new e → chunk ++ given ≡ passed ++ left
+    (e : ListError) → EndsAtError taken written stays missing waiting passed left new e → chunk ++ given ≡ passed ++ left
     → stays ≡ false → (e ≡ Input) × (waiting ≡ [] → Appends taken written []) × (length chunk + length given < missing)
 dropped_before taken written stays missing waiting passed left new chunk given Input (w, few, none) parts s = (
   refl,
@@ -168,8 +168,8 @@ joined : (chunk fetched part ahead more later left : List ℕ) → chunk ++ fetc
     → chunk ++ (fetched ++ more) ≡ (part ++ later) ++ left
 joined chunk fetched part ahead more later left one two = grind (arith, append_assoc)
 
-module _ (source rest taken written rest' written' : Option (List ℕ)) (stays : Bool) (missing left count : ℕ)
-    (chunk waiting ahead page ahead' page' : List ℕ)
+module _ {source rest taken written rest' written' : Option (List ℕ)} {stays : Bool} {missing left count : ℕ}
+    {chunk waiting ahead page ahead' page' : List ℕ}
     (p : Passed source rest taken written stays missing chunk waiting left ahead page)
     (t : TakesSome rest rest' written written' stays left ahead page count ahead' page') where
   parts_join : chunk ++ (p.fetched ++ t.fetched) ≡ (p.part ++ t.part) ++ ahead'
@@ -204,11 +204,6 @@ module _ (source rest taken written rest' written' : Option (List ℕ)) (stays :
         (omega (arith, n, s, k, z, some), (t.at_end z).0, (t.at_end z).1);
   }
 
-pub passed_all : (source rest taken written : Option (List ℕ)) (stays : Bool) (missing left : ℕ) (chunk waiting ahead page : List ℕ)
-    → Passed source rest taken written stays missing chunk waiting left ahead page → left ≡ 0
-    → PassesMissing source rest taken written stays missing chunk waiting true ahead page
-passed_all source rest taken written stays missing left chunk waiting ahead page p z = grind arith
-
 -- after these bytes were put, more were, up to an error
 module _ (taken mid written : Option (List ℕ)) (stays : Bool) (missing left : ℕ) (waiting page xs ys rest new : List ℕ)
     (p : PutsBytes taken mid waiting (if_stays stays xs) page) (size : length xs + left ≡ missing) where
@@ -218,30 +213,30 @@ module _ (taken mid written : Option (List ℕ)) (stays : Bool) (missing left : 
   heads_both : stays ≡ true → WritesHead mid written (page ++ ys) → WritesHead taken written (waiting ++ (xs ++ ys))
   heads_both s w = rw (append_assoc waiting xs ys) at (head_past taken mid written waiting xs page ys (rw s at p) w)
 
-  ends_later : (e : ListError) → EndsBefore mid written stays left page ys rest new e
-      → EndsBefore taken written stays missing waiting (xs ++ ys) rest new e
+  ends_later : (e : ListError) → EndsAtError mid written stays left page ys rest new e
+      → EndsAtError taken written stays missing waiting (xs ++ ys) rest new e
   ends_later Input (w, few, none) = grind (arith, puts_stay, longer)
   ends_later _ w = (heads_both w.3 w.0, w.1, (let few = w.2 in omega (arith, longer, size, few)), w.3)
 
-pub passed_up : (source rest taken written rest' written' : Option (List ℕ)) (stays : Bool) (missing left : ℕ)
-    (chunk waiting ahead page ahead' page' : List ℕ) (e : ListError)
-    → Passed source rest taken written stays missing chunk waiting left ahead page
-    → GivesUp rest rest' written written' stays left ahead page e ahead' page'
-    → GivesUp source rest' taken written' stays missing chunk waiting e ahead' page'
-passed_up source rest taken written rest' written' stays missing left chunk waiting ahead page ahead' page' e p w = record {
-  given = p.fetched ++ w.given;
-  passed = p.part ++ w.passed;
-  gave = Consumes-trans source rest rest' p.fetched w.given p.gave w.gave;
-  parts = joined chunk p.fetched p.part ahead w.given w.passed ahead' p.parts w.parts;
-  ends = ends_later taken written written' stays missing left waiting page p.part w.passed ahead' page' p.puts p.size e w.ends;
-}
+module _ {source rest taken written rest' written' : Option (List ℕ)} {stays : Bool} {missing left : ℕ}
+    {chunk waiting ahead page ahead' page' : List ℕ} {e : ListError} where
+  pub passed_up : Passed source rest taken written stays missing chunk waiting left ahead page
+      → GivesUp rest rest' written written' stays left ahead page e ahead' page'
+      → GivesUp source rest' taken written' stays missing chunk waiting e ahead' page'
+  passed_up p w = record {
+    given = p.fetched ++ w.given;
+    passed = p.part ++ w.passed;
+    gave = Consumes-trans source rest rest' p.fetched w.given p.gave w.gave;
+    parts = joined chunk p.fetched p.part ahead w.given w.passed ahead' p.parts w.parts;
+    ends = ends_later taken written written' stays missing left waiting page p.part w.passed ahead' page' p.puts p.size e w.ends;
+  }
 
 -- ---- a part, whose first bytes are held
 
-module _ (source rest taken mid written : Option (List ℕ)) (passing : Passing) (c : Cursor)
-    (stored chunk ahead left waiting page new : List ℕ)
-    (count : ℕ) (s : Settles taken mid passing.stays c stored chunk waiting count ahead page)
-    (whole : Bool) (m : PassesMissing source rest mid written passing.stays (passing.size - count) ahead page whole left new)
+module _ {source rest taken mid written : Option (List ℕ)} (passing : Passing) {c : Cursor}
+    {stored chunk ahead left waiting page new : List ℕ}
+    {count : ℕ} (s : Settles taken mid passing.stays c stored chunk waiting count ahead page)
+    {whole : Bool} (m : PassesMissing source rest mid written passing.stays (passing.size - count) ahead page whole left new)
     (fewer : length (drop c.mark (seen stored chunk)) < passing.size) where
   passed_so : (fault : Option Error) → PartEnds passing (length (s.front ++ m.part)) fault rest left
       → PassesPart source rest taken written passing c stored chunk waiting fault left new
@@ -264,8 +259,8 @@ module _ (source rest taken mid written : Option (List ℕ)) (passing : Passing)
       → PassesPart source rest taken written passing c stored chunk waiting (Some e) left new
   part_cut e w f = grind (arith, passed_so, longer_part)
 
-module _ (source rest taken mid written : Option (List ℕ)) (stays : Bool) (c : Cursor)
-    (stored chunk waiting ahead page left new : List ℕ) (count size : ℕ) (e : ListError)
+module _ {source rest taken mid written : Option (List ℕ)} {stays : Bool} {c : Cursor}
+    {stored chunk waiting ahead page left new : List ℕ} {count size : ℕ} {e : ListError}
     (s : Settles taken mid stays c stored chunk waiting count ahead page)
     (few : length (drop c.mark (seen stored chunk)) < size) where
   pub settled_up : GivesUp source rest mid written stays (size - count) ahead page e left new
@@ -280,10 +275,11 @@ module _ (source rest taken mid written : Option (List ℕ)) (stays : Bool) (c :
         (let z = s.size in let i = s.within in omega (arith, z, i, few)) e w.ends;
   }
 
-pub unsettled_up : (source taken written : Option (List ℕ)) (stays : Bool) (size : ℕ) (c : Cursor)
-    (stored chunk waiting left new : List ℕ) (e : ListError) (s : SettlesNot taken written c stored chunk waiting e left new)
-    → stays ≡ true → length (drop c.mark (seen stored chunk)) < size
-    → GivesUp source source taken written stays size (held_by c stored chunk) waiting e left new
-unsettled_up source taken written stays size c stored chunk waiting left new e s stay few =
-    not_put source source taken written stays size (held_by c stored chunk) waiting [] s.front left new e (Consumes-nil source)
-    (rw stay s.puts) stay (append-nil (held_by c stored chunk) ∙ s.parts) (let i = s.within in omega (arith, i, few))
+module _ {source taken written : Option (List ℕ)} {stays : Bool} {size : ℕ} {c : Cursor}
+    {stored chunk waiting left new : List ℕ} {e : ListError} where
+  pub unsettled_up : SettlesNot taken written c stored chunk waiting e left new → stays ≡ true
+      → length (drop c.mark (seen stored chunk)) < size
+      → GivesUp source source taken written stays size (held_by c stored chunk) waiting e left new
+  unsettled_up s stay few =
+      not_put source source taken written stays size (held_by c stored chunk) waiting [] s.front left new e (Consumes-nil source)
+      (rw stay s.puts) stay (append-nil (held_by c stored chunk) ∙ s.parts) (let i = s.within in omega (arith, i, few))

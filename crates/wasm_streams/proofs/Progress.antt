@@ -48,16 +48,17 @@ module _ (text : List Event → List ℕ) (source rest taken written : Option (L
       let (asked, is, asks, same) = reached.next_asks source rest f p.events p.reached g (Request hint) s refl in
       record { events = p.events; asks = asks; puts = p.puts }
 
+module _ {text : List Event → List ℕ} {source rest taken written : Option (List ℕ)} {f : Feed} {page : List ℕ} where
   -- all that waited is written
-  pub to_be_written : (written' : Option (List ℕ)) → Wants text (from_to source rest) (from_to taken written) f page
+  pub to_be_written : {written' : Option (List ℕ)} → Wants text (from_to source rest) (from_to taken written) f page
       → Appends written written' page → Wants text (from_to source rest) (from_to taken written') f []
-  to_be_written written' w a =
+  to_be_written {written'} w a =
       record { events = w.events; asks = w.asks; puts = puts_out taken written written' [] (text w.events) page w.puts a }
 
   -- it was read on
-  pub filled : Wants text (from_to source rest) (from_to taken written) f page → (rest' : Option (List ℕ)) (g : Feed)
+  pub filled : {rest' : Option (List ℕ)} {g : Feed} → Wants text (from_to source rest) (from_to taken written) f page
       → FillsAlike rest rest' f g → Progress text (from_to source rest') (from_to taken written) g page × (weight g < weight f)
-  filled w rest' g fills =
+  filled {rest'} {g} w fills =
       let (after, less) = reached.reads_on source rest f w.events w.asks rest' g fills in
       (record { events = w.events; reached = after; puts = w.puts }, less)
 

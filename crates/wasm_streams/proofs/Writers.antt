@@ -5,7 +5,7 @@ use Rattle.std.specs.Prelude.{Result}
 use Rattle.wasm_streams.specs.Feed.{new_feed}
 use Rattle.wasm_streams.specs.Progress.{Progress, Wants}
 use Rattle.wasm_streams.specs.Visits.{MayBegin, Met, MeetsRequest, since}
-use Rattle.wasm_streams.specs.Writers.{Runs, Writer, writer_stages}
+use Rattle.wasm_streams.specs.Writers.{RunEnds, Writer, writer_stages}
 use Rattle.wasm_base.specs.Features.{all_features}
 use Rattle.wasm_io.specs.Calls.{Change, Device, bytes_of, device_of, from_to, input_failed, output_failed}
 use Rattle.wasm_io.specs.declared.devices.ListError.TheVariants.{Memory, Output}
@@ -39,7 +39,7 @@ module _ {V W K : Type 0} (w : Writer V W K) where
       → input.has_failed ≡ input.had_failed → IsCut (w.taken before) (w.taken after) page e
       → w.failed after ≡ output_failed {A = Ended} (Err e) (w.failed before) → w.failed before ≡ w.failed start
       → w.ends (w.by first) (bytes_of input) (from_to (w.taken start) (w.taken after)) (Err e)
-      → Runs (w.ends (w.by first)) input (device_of w.taken w.failed start after) (Err e)
+      → RunEnds (w.ends (w.by first)) input (device_of w.taken w.failed start after) (Err e)
   cut_short first start input before after page e same c f sink ends = record {
     ends = ends;
     source = same ∙ input_kept (w.taken before) (w.taken after) page e c input.had_failed;

@@ -95,11 +95,11 @@ pub record SettlesNot (taken written : Option (List ℕ)) (c : Cursor) (stored c
 
 -- What became of the bytes that were passed before an error. If the source failed, all were put or dropped, and fewer
 -- came than are missing. If they could not be put, a prefix of what waited and of them was written, and none waits.
-abbrev pub EndsBefore : (taken written : Option (List ℕ)) (stays : Bool) (missing : ℕ)
+abbrev pub EndsAtError : (taken written : Option (List ℕ)) (stays : Bool) (missing : ℕ)
     (waiting passed left new : List ℕ) → ListError → Type 0
-EndsBefore taken written stays missing waiting passed left new Input =
+EndsAtError taken written stays missing waiting passed left new Input =
     PutsBytes taken written waiting (if_stays stays passed) new × (length passed < missing) × (left ≡ [])
-EndsBefore taken written stays missing waiting passed left new e =
+EndsAtError taken written stays missing waiting passed left new e =
     WritesHead taken written (waiting ++ passed) × (new ≡ []) × (length passed ≤ missing) × (stays ≡ true)
 
 -- A call that passes the missing bytes of a part was given up, after some of what was held and of the source.
@@ -109,7 +109,7 @@ pub record GivesUp (source rest taken written : Option (List ℕ)) (stays : Bool
   pub passed : List ℕ
   pub gave : Consumes source rest given
   pub parts : chunk ++ given ≡ passed ++ left
-  pub ends : EndsBefore taken written stays missing waiting passed left new e
+  pub ends : EndsAtError taken written stays missing waiting passed left new e
 
 -- how a part ends that is forwarded or dropped: with all its bytes, or with the source, and this fault
 abbrev pub PartEnds : Passing → (size : ℕ) → Option Error → (rest : Option (List ℕ)) (left : List ℕ) → Type 0

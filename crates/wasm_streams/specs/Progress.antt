@@ -56,8 +56,8 @@ ReadOn text_of input output old new page (Ok (Some e)) = IsListed text_of input 
 ReadOn text_of input output old new page (Err e) = ListsBy text_of input output (Err e)
 
 -- the same wherever the caller was in its stream
-abbrev pub ReadsOn : (text_of : Report → List ℕ) (input output : Change) (old : Feed) (waiting : List ℕ) (new : Feed)
-    (page : List ℕ) → Result (Option Error) ListError → Type 0
-ReadsOn text_of input output old waiting new page result = (source taken : Option (List ℕ))
+abbrev pub ReadsOnAnywhere : (text_of : Report → List ℕ) (input output : Change) (old : Feed) (waiting : List ℕ)
+    (new : Feed) (page : List ℕ) → Result (Option Error) ListError → Type 0
+ReadsOnAnywhere text_of input output old waiting new page result = (source taken : Option (List ℕ))
     → Wants (listing_by text_of) (from_to source input.before) (from_to taken output.before) old waiting
     → ReadOn text_of (from_to source input.after) (from_to taken output.after) old new page result

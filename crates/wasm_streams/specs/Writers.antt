@@ -11,7 +11,7 @@ use Rattle.wasm_io.specs.Page.{IsCut}
 use Rattle.wasm_io.specs.declared.devices.ListError.{ListError}
 
 -- | a visitor that puts a text of the events on a page, what is so of it at each stage of a run, and what the run did
---   to its devices [`Writer`, `writer_stages`, `Runs`]
+--   to its devices [`Writer`, `writer_stages`, `RunEnds`]
 -- What it writes by, its page, the bytes that its sink has taken, and whether that has failed; the text of events; and
 -- what a run has written at its end.
 pub record Writer (V W K : Type 0) : Type 1 where
@@ -23,7 +23,7 @@ pub record Writer (V W K : Type 0) : Type 1 where
   pub ends : K → (input output : Change) → Result Ended ListError → Type 0
 
 -- what a run has written at its end, and whether each device has failed
-pub record Runs (ends_as : (input output : Change) → Result Ended ListError → Type 0) (input output : Device)
+pub record RunEnds (ends_as : (input output : Change) → Result Ended ListError → Type 0) (input output : Device)
     (how : Result Ended ListError) : Type 0 where
   pub ends : ends_as (bytes_of input) (bytes_of output) how
   pub source : input.has_failed ≡ input_failed how input.had_failed
@@ -53,5 +53,6 @@ abbrev pub writer_stages : {V W K : Type 0} → Writer V W K → Stages V W
 writer_stages w = record {
   going = λ first start input f now out. Going w first start input f now out;
   ending = λ first start input how now out. Ending w first start input how now out;
-  done = λ first start input result out. Runs (w.ends (w.by first)) input (device_of w.taken w.failed start out) result;
+  done = λ first start input result out.
+      RunEnds (w.ends (w.by first)) input (device_of w.taken w.failed start out) result;
 }

@@ -1,6 +1,6 @@
 // The parser in a cursor.
 ghost use Rattle.std.specs.Prelude.{◌≡◌, ◌<◌, option_map};
-ghost use Rattle.wasm_frames.specs.Answer.{Consumes, GivesFrame, answer_to, asks, content_of};
+ghost use Rattle.wasm_frames.specs.Answer.{Consumes, GivesFrame, answer_to, asks, answer_in};
 ghost use Rattle.wasm_frames.specs.SkipNext.{SkipsNext, skip_is, skip_of};
 ghost use Rattle.wasm_frames.specs.Stored.{parser_of};
 ghost use Rattle.wasm_streams.specs.Awaited.{IsAsked};
@@ -88,7 +88,7 @@ impl FrameParser {
         eof: bool,
     ) -> NextFrame<'a>
         ensures answers { GivesFrame self.old eof bytes.now result self.new }
-        ensures consumes { Consumes bytes.now (content_of result) }
+        ensures consumes { Consumes bytes.now (answer_in result) }
     {
         self.stored.next_for::<For, AS_TEXT>(bytes, eof)
     }

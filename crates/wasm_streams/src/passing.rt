@@ -229,7 +229,7 @@ pub fn pass_part<A: Allocator, R: Source, W: Sink>(
     //   and none of the chunk remain; if they could not be forwarded, a prefix of the page and of
     //   the part was written, the page is empty, and the rest of the chunk follows the bytes that
     //   were tried. No byte is stored then either [`cut`, `none`, `cursor`, `source`, `sink` on
-    //   `pass_part` (`GivesUp`, `EndsBefore`)]
+    //   `pass_part` (`GivesUp`, `EndsAtError`)]
     ensures cut { IfErr result (λ e. GivesUp (R.remaining input.old) (R.remaining input.new)
         (W.taken output.old) (W.taken output.new) passing.stays passing.size
         (held_by cursor.old stored.old.items ahead.old) page.old e ahead.new page.new) }

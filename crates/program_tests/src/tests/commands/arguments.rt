@@ -58,9 +58,10 @@ fn names_the_option_that_is_wrong(rt: HostRuntime) -> Result<(), Fail> {
         said,
     )?;
     let said =
-        b"pulleynavy dump: option '--section' needs a value\nTry 'pulleynavy dump --help'.\n";
+        b"pulleynavy dump: option '--section' needs a value: an id, a name of the standard, as import, or the name of a custom section\nTry 'pulleynavy dump --help'.\n";
     all_refused(&rt, alloc, &NO_VALUE, said)?;
-    let said = b"pulleynavy strip: option '-o' needs a value\nTry 'pulleynavy strip --help'.\n";
+    let said =
+        b"pulleynavy strip: option '-o' needs a value: the name of a file\nTry 'pulleynavy strip --help'.\n";
     all_refused(&rt, alloc, &[&["strip", "-o"]], said)?;
     let said = b"pulleynavy list: option '--json' takes no value\nTry 'pulleynavy list --help'.\n";
     all_refused(&rt, alloc, &UNWANTED, said)
@@ -79,7 +80,8 @@ fn refuses_what_excludes_each_other(rt: HostRuntime) -> Result<(), Fail> {
     all_refused(&rt, alloc, &[&["dump", "--bytes", "--json"]], said)?;
     let said = b"pulleynavy dump: options '--json' and '--hex' exclude each other\n";
     all_refused(&rt, alloc, &[&["dump", "--json", "--hex"]], said)?;
-    let said = b"pulleynavy dump: wrong value 'red' of option '--color'\n";
+    let said =
+        b"pulleynavy dump: wrong value 'red' of option '--color': it takes always, never or auto\n";
     all_refused(&rt, alloc, &[&["dump", "--color=red"]], said)?;
     let said = b"pulleynavy strip: unexpected argument 'b'\nTry 'pulleynavy strip --help'.\n";
     all_refused(

@@ -7,11 +7,11 @@ use std::process::Abort;
 use std::test::Fail;
 
 const DUMP: &[u8] = b"version 0 8 1 module
-section 3 10 12 1 function
+section 3 10 12 1 function size=2
   11 func[0] index=5
-code 14 18 1 3
-body 16 18 func[0]
-custom 20 26 25
+code 14 18 1 3 size=4
+body 16 18 size=2 func[0]
+custom 20 26 25 size=6 \"type\"
   section name=\"type\" unknown
 end 26
 ";
@@ -27,14 +27,14 @@ fn all_write(rt: &impl Abort, alloc: Global, stream: &[u8], rows: &[Row]) -> Res
     Ok(())
 }
 
-const THIRD: &[u8] = b"section 3 10 12 1 function\n  11 func[0] index=5\nend 26\n";
+const THIRD: &[u8] = b"section 3 10 12 1 function size=2\n  11 func[0] index=5\nend 26\n";
 
-const CODE: &[u8] = b"code 14 18 1 3\nbody 16 18 func[0]\nend 26\n";
+const CODE: &[u8] = b"code 14 18 1 3 size=4\nbody 16 18 size=2 func[0]\nend 26\n";
 
-const CUSTOM: &[u8] = b"custom 20 26 25\n  section name=\"type\" unknown\nend 26\n";
+const CUSTOM: &[u8] = b"custom 20 26 25 size=6 \"type\"\n  section name=\"type\" unknown\nend 26\n";
 
 const BOTH: &[u8] =
-    b"section 3 10 12 1 function\n  11 func[0] index=5\ncode 14 18 1 3\nbody 16 18 func[0]\nend 26\n";
+    b"section 3 10 12 1 function size=2\n  11 func[0] index=5\ncode 14 18 1 3 size=4\nbody 16 18 size=2 func[0]\nend 26\n";
 
 const CHOSEN: [Row; 13] = [
     // The standard's names come before those of custom sections, and ids before both.
@@ -60,17 +60,17 @@ fn shows_what_is_asked_for(rt: HostRuntime) -> Result<(), Fail> {
 }
 
 const COLORED: &[u8] = b"\x1b[0;1mversion\x1b[0m 0 8 1 module
-\x1b[0;1msection\x1b[0m 3 10 12 1 function
+\x1b[0;1msection\x1b[0m 3 10 12 1 function size=2
   \x1b[0;2m11\x1b[0m func[0] index=5
-\x1b[0;1mcode\x1b[0m 14 18 1 3
-\x1b[0;1mbody\x1b[0m 16 18 func[0]
-\x1b[0;1mcustom\x1b[0m 20 26 25
+\x1b[0;1mcode\x1b[0m 14 18 1 3 size=4
+\x1b[0;1mbody\x1b[0m 16 18 size=2 func[0]
+\x1b[0;1mcustom\x1b[0m 20 26 25 size=6 \x1b[0;32m\"type\"\x1b[0m
   \x1b[0;1msection\x1b[0m name=\x1b[0;32m\"type\"\x1b[0m unknown
 \x1b[0;1mend\x1b[0m 26
 ";
 
 const COLORED_THIRD: &[u8] =
-    b"\x1b[0;1msection\x1b[0m 3 10 12 1 function\n  \x1b[0;2m11\x1b[0m func[0] index=5
+    b"\x1b[0;1msection\x1b[0m 3 10 12 1 function size=2\n  \x1b[0;2m11\x1b[0m func[0] index=5
 \x1b[0;1mend\x1b[0m 26\n";
 
 // Options come in any order.
@@ -91,11 +91,11 @@ fn shows_with_colors(rt: HostRuntime) -> Result<(), Fail> {
 const NAMED: [Row; 2] = [
     (
         &["dump", "--section", "a"],
-        b"custom 10 12 12\n  section name=\"a\" unknown\nend 19\n",
+        b"custom 10 12 12 size=2 \"a\"\n  section name=\"a\" unknown\nend 19\n",
     ),
     (
         &["dump", "--section", "a.bc"],
-        b"custom 14 19 19\n  section name=\"a.bc\" unknown\nend 19\n",
+        b"custom 14 19 19 size=5 \"a.bc\"\n  section name=\"a.bc\" unknown\nend 19\n",
     ),
 ];
 
@@ -109,49 +109,55 @@ fn shows_custom_sections_by_their_names(rt: HostRuntime) -> Result<(), Fail> {
 const STANDARD: [Row; 13] = [
     (
         &["dump", "--section", "type"],
-        b"section 1 10 11 0 type\nend 47\n",
+        b"section 1 10 11 0 type size=1\nend 47\n",
     ),
     (
         &["dump", "--section", "import"],
-        b"section 2 13 14 0 import\nend 47\n",
+        b"section 2 13 14 0 import size=1\nend 47\n",
     ),
     (
         &["dump", "--section", "function"],
-        b"section 3 16 17 0 function\nend 47\n",
+        b"section 3 16 17 0 function size=1\nend 47\n",
     ),
     (
         &["dump", "--section", "table"],
-        b"section 4 19 20 0 table\nend 47\n",
+        b"section 4 19 20 0 table size=1\nend 47\n",
     ),
     (
         &["dump", "--section", "memory"],
-        b"section 5 22 23 0 memory\nend 47\n",
+        b"section 5 22 23 0 memory size=1\nend 47\n",
     ),
     (
         &["dump", "--section", "tag"],
-        b"section 13 25 26 0 tag\nend 47\n",
+        b"section 13 25 26 0 tag size=1\nend 47\n",
     ),
     (
         &["dump", "--section", "global"],
-        b"section 6 28 29 0 global\nend 47\n",
+        b"section 6 28 29 0 global size=1\nend 47\n",
     ),
     (
         &["dump", "--section", "export"],
-        b"section 7 31 32 0 export\nend 47\n",
+        b"section 7 31 32 0 export size=1\nend 47\n",
     ),
-    (&["dump", "--section", "start"], b"start 34 35 0\nend 47\n"),
+    (
+        &["dump", "--section", "start"],
+        b"start 34 35 0 size=1\nend 47\n",
+    ),
     (
         &["dump", "--section", "element"],
-        b"section 9 37 38 0 element\nend 47\n",
+        b"section 9 37 38 0 element size=1\nend 47\n",
     ),
     (
         &["dump", "--section", "datacount"],
-        b"datacount 40 41 0\nend 47\n",
+        b"datacount 40 41 0 size=1\nend 47\n",
     ),
-    (&["dump", "--section", "code"], b"code 43 44 0 0\nend 47\n"),
+    (
+        &["dump", "--section", "code"],
+        b"code 43 44 0 0 size=1\nend 47\n",
+    ),
     (
         &["dump", "--section", "data"],
-        b"section 11 46 47 0 data\nend 47\n",
+        b"section 11 46 47 0 data size=1\nend 47\n",
     ),
 ];
 
@@ -189,12 +195,12 @@ const MISSING: [(&[&str], &[u8], &[u8]); 5] = [
     (
         &["dump", "--section", "3", "--section", "--section"],
         THIRD,
-        b"pulleynavy dump: standard input: no section '--section'\n",
+        b"pulleynavy dump: standard input: no section '--section'; the standard's are custom, type, import, function, table, memory, tag, global, export, start, element, datacount, code and data\n",
     ),
     (
         &["dump", "--section", "--", "--section", "3"],
         THIRD,
-        b"pulleynavy dump: standard input: no section '--'\n",
+        b"pulleynavy dump: standard input: no section '--'; the standard's are custom, type, import, function, table, memory, tag, global, export, start, element, datacount, code and data\n",
     ),
 ];
 
@@ -213,7 +219,7 @@ const ONE: [Named<'static>; 1] = [Named {
 }];
 
 const SEVERAL: &[u8] = b"one:
-section 3 10 12 1 function
+section 3 10 12 1 function size=2
   11 func[0] index=5
 end 26
 none:

@@ -182,13 +182,13 @@ const PRODUCERS: [Row; 14] = [
         &["producers", "--set", "language="],
         2,
         b"",
-        b"pulleynavy producers: wrong value 'language=' of option '--set'\n",
+        b"pulleynavy producers: wrong value 'language=' of option '--set': it takes FIELD=NAME[:VERSION], and FIELD is language, processed-by or sdk\n",
     ),
     (
         &["producers", "--set=sdk=:1"],
         2,
         b"",
-        b"pulleynavy producers: wrong value 'sdk=:1' of option '--set'\n",
+        b"pulleynavy producers: wrong value 'sdk=:1' of option '--set': it takes FIELD=NAME[:VERSION], and FIELD is language, processed-by or sdk\n",
     ),
     (
         &["producers", "--set", "language=Rust:1.90", "produced"],
@@ -256,7 +256,7 @@ const PRODUCERS: [Row; 14] = [
         &["producers", "--set", "tool=x:1"],
         2,
         b"",
-        b"pulleynavy producers: wrong value 'tool=x:1' of option '--set'\n",
+        b"pulleynavy producers: wrong value 'tool=x:1' of option '--set': it takes FIELD=NAME[:VERSION], and FIELD is language, processed-by or sdk\n",
     ),
     (
         &["producers", "-o", "new", "file"],
@@ -319,7 +319,7 @@ fn shows_producers(rt: HostRuntime) -> Result<(), Fail> {
         &files,
         (0, &shown, b""),
     )?;
-    let line = b"custom 10 41 20\n".as_slice();
+    let line = b"custom 10 41 20 size=31 \"producers\"\n".as_slice();
     assert_eq!(rt; &shown[..line.len().min(shown.len())], line);
     Ok(())
 }

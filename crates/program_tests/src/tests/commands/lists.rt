@@ -4,10 +4,10 @@ use super::{CODELESS, MODULE, answers, runs};
 use std::test::Fail;
 
 const LIST: &[u8] = b"version 0 8 1 module
-section 3 10 12 1 function
-code 14 18 1 3
-body 16 18 func[0]
-custom 20 26 25 \"type\"
+section 3 10 12 1 function size=2
+code 14 18 1 3 size=4
+body 16 18 size=2 func[0]
+custom 20 26 25 size=6 \"type\"
 end 26
 ";
 
@@ -27,12 +27,12 @@ fn lists_parts_with_names(rt: HostRuntime) -> Result<(), Fail> {
     runs(&rt, alloc, &["list", "-"], MODULE, (0, LIST, b""))?;
     runs(&rt, alloc, &["list", "--json"], MODULE, (0, OBJECTS, b""))?;
     let text =
-        b"version 0 8 1 module\nsection 3 10 12 1 function\nfault 12 function section has non-zero count but code section is absent\n";
+        b"version 0 8 1 module\nsection 3 10 12 1 function size=2\nfault 12 function section has non-zero count but code section is absent\n";
     runs(&rt, alloc, &["list"], CODELESS, (1, text, b""))?;
     // A malformed item does not change the status, and a name is escaped.
     let malformed = b"\0asm\x01\0\0\0\0\x03\x02a\"\x07\x02\x01\x05";
     let text =
-        b"version 0 8 1 module\ncustom 10 13 13 \"a\\22\"\nsection 7 15 17 1 export\nend 17\n";
+        b"version 0 8 1 module\ncustom 10 13 13 size=3 \"a\\22\"\nsection 7 15 17 1 export size=2\nend 17\n";
     runs(&rt, alloc, &["list"], malformed, (0, text, b""))
 }
 

@@ -20,22 +20,22 @@ const MODULE: &[u8] =
 
 /// Its dump.
 const DUMP: &[u8] = b"version 0 8 1 module
-section 1 10 15 1 type
+section 1 10 15 1 type size=5
   11 type[0] type=(func (param i32))
-section 2 17 27 1 import
+section 2 17 27 1 import size=10
   18 memory[0] module=\"env\" name=\"m\" ty=memory initial=1
-section 3 29 31 1 function
+section 3 29 31 1 function size=2
   30 func[0] index=0
-section 7 33 38 1 export
+section 7 33 38 1 export size=5
   34 name=\"f\" kind=func index=0
-section 9 40 45 1 element
+section 9 40 45 1 element size=5
   41 elem[0] kind=passive functions=43..45 count=1 range=41..45
     44 index=0
-code 47 51 1 3
-body 49 51 func[0]
-section 11 53 59 1 data
+code 47 51 1 3 size=4
+body 49 51 size=2 func[0]
+section 11 53 59 1 data size=6
   54 data[0] kind=passive data=3:6122ff range=54..59
-custom 61 75 66
+custom 61 75 66 size=14 \"name\"
   section name=\"name\"
     66 function
       69 index=0 name=\"f\"
@@ -89,29 +89,29 @@ const CHOSEN: [Row; 11] = [
     (&[], b"end 75\n"),
     (
         &[Only::Id(3)],
-        b"section 3 29 31 1 function\n  30 func[0] index=0\nend 75\n",
+        b"section 3 29 31 1 function size=2\n  30 func[0] index=0\nend 75\n",
     ),
     (
         &[Only::Id(10)],
-        b"code 47 51 1 3\nbody 49 51 func[0]\nend 75\n",
+        b"code 47 51 1 3 size=4\nbody 49 51 size=2 func[0]\nend 75\n",
     ),
     (&[Only::Id(13)], b"end 75\n"),
     (
         &[Only::Name("name")],
-        b"custom 61 75 66\n  section name=\"name\"\n    66 function\n      69 index=0 name=\"f\"\n      fault 72 names out of order\nend 75\n",
+        b"custom 61 75 66 size=14 \"name\"\n  section name=\"name\"\n    66 function\n      69 index=0 name=\"f\"\n      fault 72 names out of order\nend 75\n",
     ),
     (&[Only::Name("names")], b"end 75\n"),
     (
         &[Only::Id(10), Only::Id(3)],
-        b"section 3 29 31 1 function\n  30 func[0] index=0\ncode 47 51 1 3\nbody 49 51 func[0]\nend 75\n",
+        b"section 3 29 31 1 function size=2\n  30 func[0] index=0\ncode 47 51 1 3 size=4\nbody 49 51 size=2 func[0]\nend 75\n",
     ),
     (
         &[Only::Id(3), Only::Id(3)],
-        b"section 3 29 31 1 function\n  30 func[0] index=0\nend 75\n",
+        b"section 3 29 31 1 function size=2\n  30 func[0] index=0\nend 75\n",
     ),
     (
         &[Only::Id(13), Only::Name("name"), Only::Id(10)],
-        b"code 47 51 1 3\nbody 49 51 func[0]\ncustom 61 75 66\n  section name=\"name\"\n    66 function\n      69 index=0 name=\"f\"\n      fault 72 names out of order\nend 75\n",
+        b"code 47 51 1 3 size=4\nbody 49 51 size=2 func[0]\ncustom 61 75 66 size=14 \"name\"\n  section name=\"name\"\n    66 function\n      69 index=0 name=\"f\"\n      fault 72 names out of order\nend 75\n",
     ),
     (&[Only::Id(3), Only::All], DUMP),
 ];
@@ -134,7 +134,7 @@ fn shows_faults_at_their_place(rt: HostRuntime) -> Result<(), Fail> {
     let stream = b"\0asm\x01\0\0\0\x03\x03\x02\x85\x80";
     let how = Ok(Ended::Fault(Error::new(Fault::FunctionWithoutCode, 13)));
     let text =
-        b"version 0 8 1 module\nsection 3 10 13 2 function\n  fault 13 unexpected end-of-file\nfault 13 function section has non-zero count but code section is absent\n";
+        b"version 0 8 1 module\nsection 3 10 13 2 function size=3\n  fault 13 unexpected end-of-file\nfault 13 function section has non-zero count but code section is absent\n";
     dumps(&rt, rt.alloc(), &[Only::All], stream, how, text)
 }
 
@@ -143,7 +143,7 @@ fn writes_texts_in_quotes(rt: HostRuntime) -> Result<(), Fail> {
     // The name is `a"\` and a letter of two bytes, and then a line feed.
     let stream = b"\0asm\x01\0\0\0\x07\x0a\x01\x06a\"\\\xc3\xa9\n\x03\x07";
     let text =
-        b"version 0 8 1 module\nsection 7 10 20 1 export\n  11 name=\"a\\22\\5c\\c3\\a9\\0a\" kind=global index=7\nend 20\n";
+        b"version 0 8 1 module\nsection 7 10 20 1 export size=10\n  11 name=\"a\\22\\5c\\c3\\a9\\0a\" kind=global index=7\nend 20\n";
     dumps(&rt, rt.alloc(), &[Only::All], stream, Ok(Ended::End), text)
 }
 
@@ -197,7 +197,7 @@ fn shows_what_came_before_the_source_failed(rt: HostRuntime) -> Result<(), Fail>
         assert!(rt; ended == Err(ListError::Input), "{piece}");
         assert!(rt; input.failed());
         let text =
-            b"version 0 8 1 module\nsection 1 10 15 1 type\n  11 type[0] type=(func (param i32))\nsection 2 17 27 1 import\n  18 memory[0] module=\"env\" name=\"m\" ty=memory initial=1\n";
+            b"version 0 8 1 module\nsection 1 10 15 1 type size=5\n  11 type[0] type=(func (param i32))\nsection 2 17 27 1 import size=10\n  18 memory[0] module=\"env\" name=\"m\" ty=memory initial=1\n";
         assert_eq!(rt; output.written(), text.as_slice(), "{piece}");
     }
     Ok(())
@@ -212,13 +212,13 @@ fn skips_what_it_does_not_show(rt: HostRuntime) -> Result<(), Fail> {
     let rows: [Row; 4] = [
         (
             &[Only::Id(10)],
-            b"code 45 49 1 3\nbody 47 49 func[1]\nend 49\n",
+            b"code 45 49 1 3 size=4\nbody 47 49 size=2 func[1]\nend 49\n",
         ),
         (&[Only::Id(11)], b"end 49\n"),
         (&[Only::Name("b")], b"end 49\n"),
         (
             &[Only::Name("a")],
-            b"custom 19 39 21\n  section name=\"a\" unknown\nend 49\n",
+            b"custom 19 39 21 size=20 \"a\"\n  section name=\"a\" unknown\nend 49\n",
         ),
     ];
     for (only, text) in &rows {
@@ -229,7 +229,8 @@ fn skips_what_it_does_not_show(rt: HostRuntime) -> Result<(), Fail> {
 
 #[test]
 fn rows_after_what_it_does_not_show(rt: HostRuntime) -> Result<(), Fail> {
-    let text = b"43 | 0a 04 01\ncode 45 49 1 3\n46 | 02 00 0b\nbody 47 49 func[1]\nend 49\n";
+    let text =
+        b"43 | 0a 04 01\ncode 45 49 1 3 size=4\n46 | 02 00 0b\nbody 47 49 size=2 func[1]\nend 49\n";
     for piece in [1, 7, 65_536] {
         let mut tree = TextLines::new(rt.alloc(), BoundedSink::new(rt.alloc(), 1_000)?);
         let shown = Shown {
@@ -277,7 +278,7 @@ fn the_source_fails_in_a_part_that_is_not_shown(rt: HostRuntime) -> Result<(), F
         let (ended, output) = dumped(rt.alloc(), &[Only::Id(2)], &mut input, sink, piece);
         assert!(rt; ended == Err(ListError::Input), "{piece}");
         let text =
-            b"section 2 10 17 1 import\n  11 func[0] module=\"m\" name=\"f\" ty=func index=0\n";
+            b"section 2 10 17 1 import size=7\n  11 func[0] module=\"m\" name=\"f\" ty=func index=0\n";
         assert_eq!(rt; output.written(), text.as_slice(), "{piece}");
     }
     Ok(())

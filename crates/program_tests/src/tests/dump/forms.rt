@@ -93,38 +93,38 @@ const FAULT_OBJECTS: &[u8] =
 const BYTES: &[u8] = b"0 | 00 61 73 6d 01 00 00 00
 version 0 8 1 module
 8 | 03 02 01
-section 3 10 12 1 function
+section 3 10 12 1 function size=2
 11 | 05
   11 func[0] index=5
 12 | 0a 04 01
-code 14 18 1 3
+code 14 18 1 3 size=4
 15 | 02 00 0b
-body 16 18 func[0]
+body 16 18 size=2 func[0]
 18 | 00 06 04 74 79 70 65 ff
-custom 20 26 25
+custom 20 26 25 size=6 \"type\"
   section name=\"type\" unknown
 end 26
 ";
 
 const SIXTEEN: &[u8] = b"8 | 00 16 01 61 00 01 02 03 04 05 06 07 08 09 0a 0b
 24 | 0c 0d 0e 0f 10 11 12 13
-custom 10 32 12
+custom 10 32 12 size=22 \"a\"
   section name=\"a\" unknown
 fault 36 function section has non-zero count but code section is absent
 ";
 
 const HEX: &[u8] = b"version 0x0 0x8 1 module
-section 3 0xa 0xc 1 function
+section 3 0xa 0xc 1 function size=2
   0xb func[0] index=5
-code 0xe 0x12 1 3
-body 0x10 0x12 func[0]
-custom 0x14 0x1a 0x19
+code 0xe 0x12 1 3 size=4
+body 0x10 0x12 size=2 func[0]
+custom 0x14 0x1a 0x19 size=6 \"type\"
   section name=\"type\" unknown
 end 0x1a
 ";
 
 const HEX_RANGES: &[u8] = b"version 0x0 0x8 1 module
-custom 0xa 0x20 0x15
+custom 0xa 0x20 0x15 size=22 \"reloc.CODE\"
   section name=\"reloc.CODE\" section=3 range=0x15..0x20 entries=0x16..0x20 count=2
     0x17 type=R_WASM_MEMORY_ADDR_LEB offset=33 index=73 addend=-4
     0x1b type=R_WASM_MEMORY_ADDR_LEB offset=34 index=74 addend=130
@@ -132,20 +132,20 @@ end 0x20
 ";
 
 const HEX_FAULTS: &[u8] = b"version 0x0 0x8 1 module
-section 7 0xa 0xc 1 export
+section 7 0xa 0xc 1 export size=2
   fault 0xc unexpected end-of-file
 fault 0xc malformed section id
 ";
 
 const HEX_BYTES: &[u8] = b"0x8 | 00 16 01 61 00 01 02 03 04 05 06 07 08 09 0a 0b
 0x18 | 0c 0d 0e 0f 10 11 12 13
-custom 0xa 0x20 0xc
+custom 0xa 0x20 0xc size=22 \"a\"
   section name=\"a\" unknown
 fault 0x24 function section has non-zero count but code section is absent
 ";
 
 const HEX_COLORS: &[u8] =
-    b"\x1b[0;1msection\x1b[0m 3 0xa 0xc 1 function\n  \x1b[0;2m0xb\x1b[0m func[0] index=5
+    b"\x1b[0;1msection\x1b[0m 3 0xa 0xc 1 function size=2\n  \x1b[0;2m0xb\x1b[0m func[0] index=5
 \x1b[0;1mend\x1b[0m 0x1a\n";
 
 fn all_write(rt: &impl Abort, alloc: Global, rows: &[Row]) -> Result<(), Fail> {
@@ -181,10 +181,10 @@ fn writes_the_last_bytes_of_a_part(rt: HostRuntime) -> Result<(), Fail> {
 
 /// The last rows and lines of a custom section of 70,002 bytes and of an empty section of types.
 const LAST_ROWS: &[u8] = b"70008 | 61 61 61 61 61 61
-custom 12 70014 14
+custom 12 70014 14 size=70002 \"a\"
   section name=\"a\" unknown
 70014 | 01 01 00
-section 1 70016 70017 0 type
+section 1 70016 70017 0 type size=1
 end 70017
 ";
 

@@ -16,29 +16,29 @@ const STREAM: &[u8] =
     b"\0asm\x01\0\0\0\x02\x07\x01\x01m\x01f\0\0\0\x14\x01a123456789012345678\0\x0c\x06.debug12345\x03\x02\x01\0\x0a\x04\x01\x02\0\x0b\0\x06\x01\"wxyz";
 
 const LINES: &[u8] = b"version 0 8 1 module
-section 2 10 17 1 import
+section 2 10 17 1 import size=7
   11 func[0] module=\"m\" name=\"f\" ty=func index=0
-custom 19 39 21
+custom 19 39 21 size=20 \"a\"
   section name=\"a\" unknown
-custom 41 53 48
+custom 41 53 48 size=12 \".debug\"
   section name=\".debug\" unknown
-section 3 55 57 1 function
+section 3 55 57 1 function size=2
   56 func[1] index=0
-code 59 63 1 3
-body 61 63 func[1]
-custom 65 71 67
+code 59 63 1 3 size=4
+body 61 63 size=2 func[1]
+custom 65 71 67 size=6 \"\\22\"
   section name=\"\\22\" unknown
 end 71
 ";
 
 const PARTS: &[u8] = b"version 0 8 1 module
-section 2 10 17 1 import
-custom 19 39 21 \"a\"
-custom 41 53 48 \".debug\"
-section 3 55 57 1 function
-code 59 63 1 3
-body 61 63 func[1]
-custom 65 71 67 \"\\22\"
+section 2 10 17 1 import size=7
+custom 19 39 21 size=20 \"a\"
+custom 41 53 48 size=12 \".debug\"
+section 3 55 57 1 function size=2
+code 59 63 1 3 size=4
+body 61 63 size=2 func[1]
+custom 65 71 67 size=6 \"\\22\"
 end 71
 ";
 
@@ -51,15 +51,15 @@ const CHOSEN: [Row; 6] = [
     (&[Only::All, Only::Parts], PARTS),
     (
         &[Only::Id(0)],
-        b"custom 19 39 21\n  section name=\"a\" unknown\ncustom 41 53 48\n  section name=\".debug\" unknown\ncustom 65 71 67\n  section name=\"\\22\" unknown\nend 71\n",
+        b"custom 19 39 21 size=20 \"a\"\n  section name=\"a\" unknown\ncustom 41 53 48 size=12 \".debug\"\n  section name=\".debug\" unknown\ncustom 65 71 67 size=6 \"\\22\"\n  section name=\"\\22\" unknown\nend 71\n",
     ),
     (
         &[Only::Name(".debug"), Only::Id(10)],
-        b"custom 41 53 48\n  section name=\".debug\" unknown\ncode 59 63 1 3\nbody 61 63 func[1]\nend 71\n",
+        b"custom 41 53 48 size=12 \".debug\"\n  section name=\".debug\" unknown\ncode 59 63 1 3 size=4\nbody 61 63 size=2 func[1]\nend 71\n",
     ),
     (
         &[Only::Name("a"), Only::Name("\"")],
-        b"custom 19 39 21\n  section name=\"a\" unknown\ncustom 65 71 67\n  section name=\"\\22\" unknown\nend 71\n",
+        b"custom 19 39 21 size=20 \"a\"\n  section name=\"a\" unknown\ncustom 65 71 67 size=6 \"\\22\"\n  section name=\"\\22\" unknown\nend 71\n",
     ),
 ];
 
@@ -74,8 +74,8 @@ fn shows_their_first_fields(rt: HostRuntime) -> Result<(), Fail> {
 // The stream ends within the name, right after it, and in the data.
 #[test]
 fn the_stream_ends_within_one(rt: HostRuntime) -> Result<(), Fail> {
-    let first = 95;
-    let second = 138;
+    let first = 102;
+    let second = 157;
     assert!(rt; LINES[..first].ends_with(b"index=0\n"));
     assert!(rt; LINES[..second].ends_with(b"\"a\" unknown\n"));
     for (from, to, lines) in [(19, 39, first), (41, 53, second)] {
@@ -102,14 +102,14 @@ fn sections_with_known_names(rt: HostRuntime) -> Result<(), Fail> {
     let stream =
         b"\0asm\x01\0\0\0\0\x0b\x04name\x01\x04\x01\0\x01f\0\x14\x0ftarget_features\x01+\x01a\0\x10\x0areloc.CODE\x03\x01\0\x04\0";
     let text = b"version 0 8 1 module
-custom 10 21 15
+custom 10 21 15 size=11 \"name\"
   section name=\"name\"
     15 function
       18 index=0 name=\"f\"
-custom 23 43 39
+custom 23 43 39 size=20 \"target_features\"
   section name=\"target_features\" features=39..43 count=1
     40 + name=\"a\"
-custom 45 61 56
+custom 45 61 56 size=16 \"reloc.CODE\"
   section name=\"reloc.CODE\" section=3 range=56..61 entries=57..61 count=1
     58 type=R_WASM_FUNCTION_INDEX_LEB offset=4 index=0 addend=0
 end 61
@@ -117,7 +117,7 @@ end 61
         .as_slice();
     dumps(&rt, rt.alloc(), &[Only::All], stream, Ok(Ended::End), text)?;
     let text =
-        b"version 0 8 1 module\ncustom 10 21 15 \"name\"\ncustom 23 43 39 \"target_features\"\ncustom 45 61 56 \"reloc.CODE\"\nend 61\n";
+        b"version 0 8 1 module\ncustom 10 21 15 size=11 \"name\"\ncustom 23 43 39 size=20 \"target_features\"\ncustom 45 61 56 size=16 \"reloc.CODE\"\nend 61\n";
     dumps(
         &rt,
         rt.alloc(),
@@ -134,15 +134,15 @@ fn symbols_have_their_names(rt: HostRuntime) -> Result<(), Fail> {
     let stream =
         b"\0asm\x01\0\0\0\0\x04\x01a12\0\x0c\x06.debug12345\0\x0f\x07linking\x02\x08\x04\x01\x03\x02\x01\0\x11\x0areloc.CODE\x03\x01\x09\0\0\0";
     let text = b"version 0 8 1 module
-custom 10 14 12
+custom 10 14 12 size=4 \"a\"
   section name=\"a\" unknown
-custom 16 28 23
+custom 16 28 23 size=12 \".debug\"
   section name=\".debug\" unknown
-custom 30 45 38
+custom 30 45 38 size=15 \"linking\"
   section name=\"linking\" version=2 range=38..45 subsections=39
     39 symbol_table=41..45 count=1
       42 symbol[0] \".debug\" section flags=BINDING_LOCAL section=1
-custom 47 64 58
+custom 47 64 58 size=17 \"reloc.CODE\"
   section name=\"reloc.CODE\" section=3 range=58..64 entries=59..64 count=1
     60 type=R_WASM_SECTION_OFFSET_I32 offset=0 index=0 addend=0 \".debug\"
 end 64
@@ -183,17 +183,17 @@ fn says_which_choices_were_found(rt: HostRuntime) -> Result<(), Fail> {
 #[test]
 fn shows_them_between_names(rt: HostRuntime) -> Result<(), Fail> {
     let text = b"version 0x0 0x8 1 module
-section 2 0xa 0x11 1 import
+section 2 0xa 0x11 1 import size=7
   0xb func[0] \"f\" module=\"m\" name=\"f\" ty=func index=0
-custom 0x13 0x27 0x15
+custom 0x13 0x27 0x15 size=20 \"a\"
   section name=\"a\" unknown
-custom 0x29 0x35 0x30
+custom 0x29 0x35 0x30 size=12 \".debug\"
   section name=\".debug\" unknown
-section 3 0x37 0x39 1 function
+section 3 0x37 0x39 1 function size=2
   0x38 func[1] \"g\" index=0
-code 0x3b 0x3f 1 3
-body 0x3d 0x3f func[1] \"g\"
-custom 0x41 0x47 0x43
+code 0x3b 0x3f 1 3 size=4
+body 0x3d 0x3f size=2 func[1] \"g\"
+custom 0x41 0x47 0x43 size=6 \"\\22\"
   section name=\"\\22\" unknown
 end 0x47
 "
@@ -330,7 +330,7 @@ fn dumps_zeros(
 #[test]
 fn shows_a_large_one(rt: HostRuntime) -> Result<(), Fail> {
     let text =
-        b"version 0 8 1 module\ncustom 12 1048588 17\n  section name=\"long\" unknown\nend 1048588\n";
+        b"version 0 8 1 module\ncustom 12 1048588 17 size=1048576 \"long\"\n  section name=\"long\" unknown\nend 1048588\n";
     dumps_zeros(&rt, rt.alloc(), 1_048_571, Ended::End, text)?;
     let text = b"version 0 8 1 module\nfault 12 unexpected end-of-file\n";
     let how = Ended::Fault(Error::new(Fault::UnexpectedEof, 12));

@@ -15,17 +15,17 @@ const OBJECT: &[u8] =
 
 /// The lines of its dump before the relocations, with the names of items.
 const BEFORE: &[u8] = b"version 0 8 1 module
-section 1 10 14 1 type
+section 1 10 14 1 type size=4
   11 type[0] type=(func)
-section 2 16 27 1 import
+section 2 16 27 1 import size=11
   17 func[0] \"log\" module=\"env\" name=\"log\" ty=func index=0
-section 3 29 31 1 function
+section 3 29 31 1 function size=2
   30 func[1] \"run\" index=0
-code 33 43 1 9
-body 35 43 func[1] \"run\"
-custom 45 52 52
+code 33 43 1 9 size=10
+body 35 43 size=8 func[1] \"run\"
+custom 45 52 52 size=7 \".debug\"
   section name=\".debug\" unknown
-custom 54 90 62
+custom 54 90 62 size=36 \"linking\"
   section name=\"linking\" version=2 range=62..90 subsections=63
     63 symbol_table=65..83 count=4
       66 symbol[0] \"log\" func flags=UNDEFINED index=0
@@ -37,7 +37,7 @@ custom 54 90 62
 ";
 
 /// The relocations.
-const RELOCATIONS: &[u8] = b"custom 92 119 103
+const RELOCATIONS: &[u8] = b"custom 92 119 103 size=27 \"reloc.CODE\"
   section name=\"reloc.CODE\" section=3 range=103..119 entries=104..119 count=4
     105 type=R_WASM_FUNCTION_INDEX_LEB offset=4 index=0 addend=0 \"log\"
     108 type=R_WASM_TYPE_INDEX_LEB offset=4 index=0 addend=0
@@ -84,7 +84,8 @@ fn relocations_alone_have_names(rt: HostRuntime) -> Result<(), Fail> {
 #[test]
 fn shown_sections_name_their_symbols(rt: HostRuntime) -> Result<(), Fail> {
     let only = [Only::Name(".debug"), Only::Name("reloc.CODE")];
-    let debug = b"custom 45 52 52\n  section name=\".debug\" unknown\n".as_slice();
+    let debug =
+        b"custom 45 52 52 size=7 \".debug\"\n  section name=\".debug\" unknown\n".as_slice();
     chosen(&rt, rt.alloc(), &only, &[debug, RELOCATIONS, NAMED])
 }
 
@@ -97,10 +98,10 @@ const RELOCATION: &[u8] = b"\0\x10\x0areloc.CODE\x03\x01\0\x04\0";
 const SYMBOL: &[u8] = b"\0\x11\x07linking\x02\x08\x06\x01\0\0\x05\x01f";
 
 const RELOCATION_FIRST: &[u8] = b"version 0 8 1 module
-custom 10 26 21
+custom 10 26 21 size=16 \"reloc.CODE\"
   section name=\"reloc.CODE\" section=3 range=21..26 entries=22..26 count=1
     23 type=R_WASM_FUNCTION_INDEX_LEB offset=4 index=0 addend=0
-custom 28 45 36
+custom 28 45 36 size=17 \"linking\"
   section name=\"linking\" version=2 range=36..45 subsections=37
     37 symbol_table=39..45 count=1
       40 symbol[0] func flags=0 index=5 name=\"f\"
@@ -120,9 +121,9 @@ fn a_relocation_before_its_symbol_has_no_name(rt: HostRuntime) -> Result<(), Fai
 const LYNKING: &[u8] = b"\0\x11\x07lynking\x02\x08\x06\x01\0\0\x05\x01f";
 
 const RELOCATION_LAST: &[u8] = b"version 0 8 1 module
-custom 10 27 18
+custom 10 27 18 size=17 \"lynking\"
   section name=\"lynking\" unknown
-custom 29 45 40
+custom 29 45 40 size=16 \"reloc.CODE\"
   section name=\"reloc.CODE\" section=3 range=40..45 entries=41..45 count=1
     42 type=R_WASM_FUNCTION_INDEX_LEB offset=4 index=0 addend=0
 end 45
@@ -220,7 +221,7 @@ const BEFORE_LONG: &[u8] =
 const AFTER_LONG: &[u8] = b"\0\0\x05\x01f\0\x10\x0areloc.CODE\x03\x01\0\x04\x01";
 
 /// The dump of the relocation.
-const AFTER_LONG_LINES: &[u8] = b"custom 70039 70055 70050
+const AFTER_LONG_LINES: &[u8] = b"custom 70039 70055 70050 size=16 \"reloc.CODE\"
   section name=\"reloc.CODE\" section=3 range=70050..70055 entries=70051..70055 count=1
     70052 type=R_WASM_FUNCTION_INDEX_LEB offset=4 index=1 addend=0 \"f\"
 end 70055

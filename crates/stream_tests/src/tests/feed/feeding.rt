@@ -44,9 +44,12 @@ fn step(feeder: &mut Feeder) -> Reported {
     say(feeder.step())
 }
 
-// Like `step`, by `step_with`, of a feeder with any memory.
-fn step_with<A: Allocator>(feeder: &mut Feeder<A>) -> Reported {
-    feeder.step_with(say)
+// Like `step`, over no further bytes, of a feeder with any memory.
+fn step_over_none<A: Allocator>(feeder: &mut Feeder<A>) -> Reported {
+    match feeder.step_over(b"", say) {
+        Ok((_, said)) => said,
+        Err(error) => Reported::Refuses(error),
+    }
 }
 
 // Pushes a chunk, if the feeder wants more.
@@ -154,7 +157,7 @@ fn faults_and_features(rt: HostRuntime) {
     let mut feeder = Feeder::new(rt.alloc(), 7, WasmFeatures::MEMORY64);
     let pushed = push(&mut feeder, b"\0asm\x01\0\0\0\x02\x01\0\x02");
     same(&rt, pushed, Ok(()));
-    same(&rt, step_with(&mut feeder), Reported::Shows(8));
+    same(&rt, step_over_none(&mut feeder), Reported::Shows(8));
     let imports = next_imports(&mut feeder, b"\x02\x01\0");
     same(&rt, imports, Ok(Some(17..18)));
     same(&rt, step(&mut feeder), Reported::Asks(1));
@@ -246,7 +249,7 @@ fn note_steps(
     steps: &mut Vec<Reported>,
 ) -> std::result::Result<(), AllocError> {
     for _ in 0..4 {
-        let step = step_with(feeder);
+        let step = step_over_none(feeder);
         steps.push(step)?;
         let Reported::Shows(_) = step else {
             break;

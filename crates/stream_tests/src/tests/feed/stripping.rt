@@ -6,7 +6,7 @@ use std::process::Abort;
 use std::test::Fail;
 use test_devices::Sparing;
 use wasm_feed::{
-    BoundedSink, Ended, Keep, ListError, Sink, SliceSource, strip, strip_in, strip_in_place,
+    BoundedSink, Edit, Ended, Keep, ListError, Sink, SliceSource, edit, strip, strip_in_place,
     strip_stream, strip_to_front,
 };
 use wasm_parser::{Error, Fault, Result};
@@ -133,7 +133,7 @@ fn left_in<'a>(
     stream: &[u8],
     keep_names: bool,
 ) -> Result<Vec<u8, &'a Sparing<Global>>> {
-    strip_in(heap, stream, Keep::names(keep_names))
+    edit(heap, stream, &[Edit::Keep(Keep::names(keep_names))])
 }
 
 // The stripped stream is this.
@@ -322,7 +322,7 @@ fn keeps_what_is_chosen(rt: HostRuntime) {
             kept,
             removed,
         };
-        let left = strip_in(rt.alloc(), CUSTOM, keep).expect(&rt, "a fault");
+        let left = edit(rt.alloc(), CUSTOM, &[Edit::Keep(keep)]).expect(&rt, "a fault");
         same_at(&rt, left.as_slice(), *wanted, wanted);
     }
 }

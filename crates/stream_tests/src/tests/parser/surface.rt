@@ -2,7 +2,7 @@
 use super::{HEADER, after_header, end, next, pass, refusal, section_of};
 use crate::tests::same;
 use bitflags::Flags;
-use wasm_parser::{Encoding, Error, Fault, Parser, Payload, WasmFeatures};
+use wasm_parser::{Error, Fault, NextFrame, Parser, Payload, StoredParser, WasmFeatures};
 
 #[test]
 fn headers_are_distinguished(rt: HostRuntime) {
@@ -53,42 +53,51 @@ fn a_copy_goes_its_own_way(rt: HostRuntime) {
     );
 }
 
-// What a parser knows after a function section and the start of a code section whose one body remains.
+// What a parser stores after a function section and the start of a code section whose one body remains.
 #[test]
-fn a_checkpoint_in_a_code_section(rt: HostRuntime) {
+fn what_is_stored_in_a_code_section(rt: HostRuntime) {
     let mut parser = after_header(&rt, 100);
     pass(&rt, &mut parser, b"\x03\x02\x01\0");
     pass(&rt, &mut parser, b"\x0a\x04\x01\x02\0\x0b");
-    let found = parser.checkpoint();
+    let found = parser.stored();
     same(&rt, (found.offset, found.bodies), (115, 1));
-    same(&rt, (found.code_bytes, found.in_code), (3, true));
-    same(
-        &rt,
-        [found.functions, found.codes, found.datas, found.data_counts],
-        [Some(1), Some(1), None, None],
-    );
-    same(&rt, found.expects_header, false);
-    same(&rt, found.encoding, Encoding::Module);
+    same(&rt, (found.code_bytes, found.in_code != 0), (3, true));
+    same(&rt, (found.functions, found.codes), (1, 1));
+    let counted = [
+        found.has_functions,
+        found.has_codes,
+        found.has_datas,
+        found.has_data_counts,
+    ];
+    same(&rt, counted.map(|has| has != 0), [true, true, false, false]);
+    same(&rt, (found.is_begun != 0, found.is_component), (true, 0));
+}
+
+// The fault of a stored parser on these bytes, which are all that come.
+fn stored_fault(parser: &mut StoredParser, bytes: &[u8]) -> Option<Error> {
+    match parser.next(bytes, true) {
+        NextFrame::Fault(error) => Some(error),
+        _ => None,
+    }
 }
 
 #[test]
-fn a_parser_goes_on_from_its_checkpoint(rt: HostRuntime) {
+fn a_stored_parser_goes_on_from_its_place(rt: HostRuntime) {
     let mut parser = after_header(&rt, 0);
     pass(&rt, &mut parser, b"\x03\x02\x01\0");
-    let checkpoint = parser.checkpoint();
+    let mut stored = parser.stored();
     pass(&rt, &mut parser, b"\x0a\x03\x01\x01");
     pass(&rt, &mut parser, b"\x01\0");
     same(&rt, end(&mut parser), Some(17));
-    let mut resumed = Parser::resume(checkpoint);
-    same(&rt, resumed.checkpoint() == checkpoint, true);
+    same(&rt, stored.offset, 12);
     same(
         &rt,
-        refusal(&mut resumed, b"\x03\x02\x01\0"),
+        stored_fault(&mut stored, b"\x03\x02\x01\0"),
         Some(Error::new(Fault::OutOfOrder, 14)),
     );
     same(
         &rt,
-        refusal(&mut resumed, b""),
+        stored_fault(&mut stored, b""),
         Some(Error::new(Fault::FunctionWithoutCode, 12)),
     );
 }

@@ -8,7 +8,7 @@ loop-count-preserved g c =
     let within = c.loop-count-test.true in
     record {
       within = omega (arith, length-set c.loop-count.out c.loop-count.count c.in-Some.item, within);
-      stored = goes_on_at _ _ _ _ _ _ _ _ (sym c.next.ensures ∙ ap (λ r. (r, c.next.new.items)) c.in-Some.is) within
+      stored = goes_on_at (sym c.next.ensures ∙ ap (λ r. (r, c.next.new.items)) c.in-Some.is) within
           c.loop-count.invariant.stored;
     }
 

@@ -6,14 +6,7 @@ returns-in-Excluded-clause-says g c =
     (rw (c.command_words.ensures, c.as_slice.ensures, c.as_bytes.ensures.value, c.as_bytes-in-Excluded.ensures.value) at c.say.ensures)
 
 pub returns-in-WrongValue-clause-says : goal.returns-in-WrongValue-clause-says
-returns-in-WrongValue-clause-says g c =
-    rw c.in-WrongValue.is
-    (rw (
-      c.command_words-in-WrongValue.ensures,
-      c.as_slice-in-WrongValue.ensures,
-      c.as_bytes-in-WrongValue.ensures.value,
-      c.as_bytes-in-WrongValue-2.ensures.value,
-    ) at c.say-in-WrongValue.ensures)
+returns-in-WrongValue-clause-says g c = rw c.in-WrongValue.is c.complain_of_value.ensures.says
 
 pub returns-in-Extra-clause-says : goal.returns-in-Extra-clause-says
 returns-in-Extra-clause-says g c = rw c.in-Extra.is c.complain_of.ensures.says

@@ -8,5 +8,6 @@ returns g c = record {
     c.as_bytes.ensures.value,
     c.shown_name.ensures,
     c.as_bytes-2.ensures.value,
+    c.hint_for.ensures,
   ) at c.say.ensures;
 }

@@ -1,21 +1,16 @@
 use Rattle.wasm_dumper.proofs.Common.{◌≡◌, ◌++◌, sym, ap, subst, ◌∙◌, Base, first_in_objects, base_of, AddsFirst}
 use Rattle.std.proofs.Common.{codes}
-use Rattle.wasm_dumper.specs.Chosen.{fields_part}
-use Rattle.wasm_frames.specs.SkipNext.{Skip}
-use Rattle.wasm_lines.specs.Listing.{skip_text}
+use Rattle.wasm_dumper.specs.Chosen.{fields_part, outlined_text}
 use Rattle.wasm_dumper.proofs.events.show_custom_event.Goals as goal
 
 pub returns-in-Lines-clause-adds : goal.returns-in-Lines-clause-adds
 returns-in-Lines-clause-adds g c =
     let writing = g.O.Tree.writing in
-    let base = c.in-Lines.base in
-    let same : base ≡ base_of (writing c.args.out.now).style = ap base_of (sym c.in-Lines.is ∙ c.style.ensures) in
-    let line = subst (λ (s : Skip). AddsFirst (skip_text base s ++ codes "\n") (writing c.args.out.now) (writing c.write_first.new.out))
-    c.part_of-part.ensures c.write_first.ensures.adds in
-    subst (λ (b : Base). AddsFirst (skip_text b (fields_part c.args.fields) ++ codes "\n") (writing c.args.out.now)
-    (writing c.write_first.new.out)) same line
+    let same : c.in-Lines.base ≡ base_of (writing c.args.out.now).style = ap base_of (sym c.in-Lines.is ∙ c.style.ensures) in
+    subst (λ (b : Base). AddsFirst (outlined_text b (fields_part c.args.fields) ++ codes "\n") (writing c.args.out.now)
+    (writing c.first_named.new.self)) same c.first_named.ensures.adds
 
 pub returns-in-Objects-clause-adds : goal.returns-in-Objects-clause-adds
 returns-in-Objects-clause-adds g c =
     first_in_objects _ _ (sym c.style.ensures ∙ c.in-Objects.is) c.custom_object.ensures.adds
-    (skip_text (base_of (g.O.Tree.writing c.args.out.now).style) (fields_part c.args.fields) ++ codes "\n")
+    (outlined_text (base_of (g.O.Tree.writing c.args.out.now).style) (fields_part c.args.fields) ++ codes "\n")

@@ -16,4 +16,4 @@ returns-in-NeedMoreData g c =
 pub returns-in-Parsed : goal.returns-in-Parsed
 returns-in-Parsed g c =
     let made = rw c.open.ensures.opens at c.step.ensures in
-    noted _ _ _ _ _ _ _ _ (rw (c.in_ok-step.was, c.in-Parsed.is) at made) c.tell.ensures
+    noted g.V.Visitor.takes _ _ _ _ _ _ _ (rw (c.in_ok-step.was, c.in-Parsed.is) at made) c.tell.ensures

@@ -5,5 +5,5 @@ use Rattle.wasm_list.proofs.run.run_whole.Goals as goal
 pub returns : goal.returns
 returns g c =
     rw c.from.ensures
-    (program _ _ _ _ _ _ _ _ _ (record { bytes = refl; failed = refl }) (record { bytes = refl; failed = refl })
+    (program (record { bytes = refl; failed = refl }) (record { bytes = refl; failed = refl })
     c.run_command-status.ensures c.finish.ensures)

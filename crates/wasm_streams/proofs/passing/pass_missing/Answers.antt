@@ -8,12 +8,11 @@ chunks-init g c = record { passed = none_passed _ _ _ _ _ _; input = refl; outpu
 pub returns-in_err-count-clause-cut : goal.returns-in_err-count-clause-cut
 returns-in_err-count-clause-cut g c =
     let e = err_from_is_err_and c.from_residual.result c.from_residual.ensures.1 in
-    rw (e.1, e.2) (passed_up _ _ _ _ _ _ _ _ _ _ _ _ _ _ _ _ c.chunks.invariant.passed c.in_err-count.ensures.cut)
+    rw (e.1, e.2) (passed_up c.chunks.invariant.passed c.in_err-count.ensures.cut)
 
 pub returns-then-count-eq0-clause-passes : goal.returns-then-count-eq0-clause-passes
 returns-then-count-eq0-clause-passes g c =
-    passed_end _ _ _ _ _ _ _ _ _ _ _ _ _ _ _ _ c.chunks.invariant.passed c.in_ok-count.ensures.takes c.chunks-test.true
-    c.if-count-eq0.true
+    passed_end c.chunks.invariant.passed c.in_ok-count.ensures.takes c.chunks-test.true c.if-count-eq0.true
 
 pub chunks-preserved : goal.chunks-preserved
 chunks-preserved g c = grind (arith, passed_more)

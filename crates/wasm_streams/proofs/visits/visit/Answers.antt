@@ -17,8 +17,8 @@ moves_so : (g : Over) (c : After-next_frame_for g)
     (lending c.make_ready.new.stored.items c.make_ready.new.self c.next_frame_for.new.cursor)
 moves_so g c =
     let a = c.next_frame_for.ensures in
-    both _ _ _ _ _ _ _ _ _ c.in-Ok.ensures.same c.in-Ok.ensures.enough c.seen.ensures c.deref.ensures.value c.bytes.ensures a.parses
-    a.shows a.finished a.wants
+    both _ _ c.in-Ok.ensures.same c.in-Ok.ensures.enough c.seen.ensures c.deref.ensures.value c.bytes.ensures a.parses a.shows
+    a.finished a.wants
 
 -- by a part, which the visitor took
 part_so : (g : Over) (c : After-take_part g)

@@ -24,7 +24,7 @@ f\0\x1f\x01t\x01\x20\x01m\x02\x21\x01g\x03\"\x01e\x04\x23\x01x\x20\x08\x01\x24\x
 
 /// Its dump.
 const SECTIONS_DUMP: &[u8] = b"version 0 8 1 module
-section 1 10 71 3 type
+section 1 10 71 3 type size=61
   11 explicit=true
     type[0] type=(sub final 5 (func (param i32 i64 f32) (result f64 v128)))
     type[1] type=(sub (array (mut i8)))
@@ -32,7 +32,7 @@ section 1 10 71 3 type
     type[3] type=(struct (field i8) (field (mut i16)) (field (mut (ref null 7))) (field (ref extern)) (field i64))
   52 type[4] type=(func (param (ref null func) (ref null extern) (ref null any) (ref null eq) (ref null i31) (ref null struct) (ref null array) (ref null exn) (ref null none) (ref null noextern) (ref null nofunc) (ref null noexn)) (result (ref 200)))
   fault 70 invalid leading byte for composite type: 64
-section 2 73 186 12 import
+section 2 73 186 12 import size=113
   74 func[0] module=\"a\" name=\"b\" ty=func index=300
   81 table[0] module=\"c\" name=\"\" ty=table element_type=(ref null extern) table64=true initial=3 maximum=9
   89 table[1] module=\"\" name=\"d\" ty=table element_type=(ref 4) initial=130 maximum=131 shared=true
@@ -48,33 +48,33 @@ section 2 73 186 12 import
   171 memory[2] module=\"t\" name=\"u\" ty=memory initial=15 page_size_log2=16
   173 memory[3] module=\"t\" name=\"v\" ty=memory initial=15 page_size_log2=16
   175 func[3] module=\"w\\22\\5c\\0a\" name=\"x\\c3\\a9\" ty=func index=17
-section 3 188 193 3 function
+section 3 188 193 3 function size=5
   189 func[4] index=1
   190 func[5] index=200
   192 func[6] index=7
-section 4 195 209 2 table
+section 4 195 209 2 table size=14
   196 table[2] element_type=(ref null func) table64=true initial=21 maximum=22 init=null
   200 table[3] element_type=(ref null 24) initial=23 shared=true init=(ref.null func)
-section 5 211 219 2 memory
+section 5 211 219 2 memory size=8
   212 memory[4] memory64=true initial=25 maximum=26 page_size_log2=27
   216 memory[5] shared=true initial=28
   fault 218 section size mismatch: unexpected data at the end of the section
-section 13 221 227 2 tag
+section 13 221 227 2 tag size=6
   222 tag[2] kind=exception func_type_idx=29
   224 tag[3] kind=exception func_type_idx=300
-section 6 229 264 3 global
+section 6 229 264 3 global size=35
   230 global[2] content_type=(mut i64) init_expr=(i64.const 30)
   235 global[3] content_type=f32 shared=true init_expr=(f32.const bits=0)
   243 global[4] content_type=v128 init_expr=(v128.const 00000000000000000000000000000000)
-section 7 266 290 6 export
+section 7 266 290 6 export size=24
   267 name=\"f\" kind=func index=31
   271 name=\"t\" kind=table index=32
   275 name=\"m\" kind=memory index=33
   279 name=\"g\" kind=global index=34
   283 name=\"e\" kind=tag index=35
   fault 290 Exact type is not allowed in the exports
-start 292 293 36
-section 9 295 361 9 element
+start 292 293 36 size=1
+section 9 295 361 9 element size=66
   296 elem[0] kind=active offset_expr=(i32.const 1) functions=300..303 count=2 range=296..303
     301 index=37
     302 index=38
@@ -96,16 +96,16 @@ section 9 295 361 9 element
     354 expr=(ref.null func)
     357 expr=(ref.null func)
   fault 360 invalid flags byte in element segment
-datacount 363 364 3
-code 366 379 3 12
-body 368 370 func[4]
-body 371 374 func[5]
-body 375 379 func[6]
-section 11 381 431 3 data
+datacount 363 364 3 size=1
+code 366 379 3 12 size=13
+body 368 370 size=2 func[4]
+body 371 374 size=3 func[5]
+body 375 379 size=4 func[6]
+section 11 381 431 3 data size=50
   382 data[0] kind=active memory_index=0 offset_expr=(i32.const 47) data=3:616263 range=382..390
-  390 data[1] kind=passive data=17:000102030405060708090a0b0c0d0e0f range=390..409
+  390 data[1] kind=passive data=17:000102030405060708090a0b0c0d0e0f.. range=390..409
   409 data[2] kind=active memory_index=48 offset_expr=(i32.const -1) data=16:f0f1f2f3f4f5f6f7f8f9fafbfcfdfeff range=409..431
-unknown 14 433 435
+unknown 14 433 435 size=2
 fault 435 malformed section id
 ";
 
@@ -122,7 +122,7 @@ code\x2ebranch\x5fhint\x02\x1a\x02\x1b\x01\x01\x1c\x01\0\x1d\x01\x1e\x01\x01\0\x
 
 /// Its dump.
 const NAMES_DUMP: &[u8] = b"version 0 8 1 module
-custom 11 162 16
+custom 11 162 16 size=151 \"name\"
   section name=\"name\"
     16 module name=\"top\" range=18..22
     fault 26 trailing data at the end of a name
@@ -165,16 +165,16 @@ custom 11 162 16
     132 tag_parameter
       135 index=23
         137 index=24 name=\"s\"
-    140 unknown ty=14 contents=18:0102030405060708090a0b0c0d0e0f10 range=142..160
+    140 unknown ty=14 contents=18:0102030405060708090a0b0c0d0e0f10.. range=142..160
     160 unknown ty=25 contents=0: range=162..162
-custom 164 204 190
+custom 164 204 190 size=40 \"metadata.code.branch_hint\"
   section name=\"metadata.code.branch_hint\" functions=190..204 count=2
     191 func=26 hints=192..199 count=2
       193 func_offset=27 taken=true
       196 func_offset=28
     199 func=29 hints=200..204 count=1
       201 func_offset=30 taken=true
-custom 206 266 216
+custom 206 266 216 size=60 \"producers\"
   section name=\"producers\" fields=216..266 count=4
     217 name=\"language\" values=226..237 count=2
       227 name=\"A\" version=\"1\"
@@ -184,9 +184,9 @@ custom 206 266 216
     245 name=\"processed-by\" values=258..263 count=1
       259 name=\"D\" version=\"3\"
     fault 263 invalid producers field name
-custom 268 280 277
+custom 268 280 277 size=12 \"sour\\22ce\\0a\"
   section name=\"sour\\22ce\\0a\" unknown
-custom 282 293 292
+custom 282 293 292 size=11 \"producers\"
   section name=\"producers\" unknown
 end 293
 ";
@@ -205,7 +205,7 @@ r\x13\x06\0\x14\x01\x15\x02\x16\x03\x17\x04\x18\x05\x19\x01s\x1a\0\x05\x01\x80\x
 
 /// Its dump.
 const LINKING_DUMP: &[u8] = b"version 0 8 1 module
-custom 10 83 19
+custom 10 83 19 size=73 \"dylink.0\"
   section name=\"dylink.0\"
     19 mem_info memory_size=1 memory_alignment=2 table_size=300 table_alignment=4
     26 needed
@@ -222,7 +222,7 @@ custom 10 83 19
       folder name=\"/y\"
     70 target_arch=\"wasm64\"
     79 unknown ty=7 contents=2:0809 range=81..83
-custom 85 200 93
+custom 85 200 93 size=115 \"linking\"
   section name=\"linking\" version=2 range=93..200 subsections=94
     94 segment_info=96..106 count=2
       97 name=\"p\" alignment=12 flags=STRINGS | RETAIN | 8
@@ -253,7 +253,7 @@ custom 85 200 93
       fault 186 invalid leading byte for symbol kind: 6
     188 target_arch=\"wasm32\"
     197 unknown ty=10 contents=1:01 range=199..200
-custom 202 317 213
+custom 202 317 213 size=115 \"reloc.CODE\"
   section name=\"reloc.CODE\" section=29 range=213..317 entries=214..317 count=28
     215 type=R_WASM_FUNCTION_INDEX_LEB offset=30 index=70 addend=0
     218 type=R_WASM_TABLE_INDEX_SLEB offset=31 index=71 addend=0
@@ -295,13 +295,13 @@ const CORE: &[u8] =
 
 /// Its dump.
 const CORE_DUMP: &[u8] = b"version 0 8 1 module
-custom 10 26 15
+custom 10 26 15 size=16 \"core\"
   section name=\"core\" process=\"test.wasm\"
-custom 28 47 40
+custom 28 47 40 size=19 \"coremodules\"
   section name=\"coremodules\" modules=2
     module name=\"a\"
     module name=\"b\"
-custom 49 78 63
+custom 49 78 63 size=29 \"coreinstances\"
   section name=\"coreinstances\" instances=2
     instance module_index=1
       memory=2
@@ -310,7 +310,7 @@ custom 49 78 63
     instance module_index=5
       global=6
       global=7
-custom 80 139 90
+custom 80 139 90 size=59 \"corestack\"
   section name=\"corestack\" thread=\"main\" frames=2
     frame instanceidx=1 funcidx=2 codeoffset=300
       local i32=-4
@@ -322,9 +322,9 @@ custom 80 139 90
     frame instanceidx=6 funcidx=7 codeoffset=8
       stack missing
       stack i64=9
-custom 141 155 153
+custom 141 155 153 size=14 \"coremodules\"
   section name=\"coremodules\" unknown
-custom 157 158 158
+custom 157 158 158 size=1 \"\"
   section name=\"\" unknown
 end 158
 ";

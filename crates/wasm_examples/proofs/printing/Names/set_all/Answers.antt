@@ -1,5 +1,5 @@
 use Rattle.std.proofs.Common.{◌∙◌, ap, sym}
-use Rattle.wasm_examples.specs.Printing.{Names, texts_of, names_of_map}
+use Rattle.wasm_examples.specs.Printing.{EachName, texts_of, names_of_map}
 use Rattle.wasm_examples.proofs.Naming.{entry_came, entry_fault}
 use Rattle.wasm_examples.proofs.printing.Names.set_all.Goals as goal
 
@@ -10,7 +10,7 @@ loop-naming-preserved-in-Ok c =
       can = tt;
       finite = tt;
       left = c.loop-naming.invariant.left ∙ (entry_came (texts_of c.loop-naming.self.list) c.loop-naming.naming-iterator c.next.new.self
-          c.in-Ok.naming next ∙ ap (λ (n : Names). names_of_map n c.next.new.self) (sym c.set.ensures));
+          c.in-Ok.naming next ∙ ap (λ (n : EachName). names_of_map n c.next.new.self) (sym c.set.ensures));
     }
 
 pub loop-naming-preserved : goal.loop-naming-preserved

@@ -1,6 +1,6 @@
 use Rattle.std.proofs.Common.{◌∙◌, subst, sym}
 use Rattle.wasm_base.specs.Window.{place}
-use Rattle.wasm_examples.specs.Printing.{Names, texts_of, names_of_section}
+use Rattle.wasm_examples.specs.Printing.{EachName, texts_of, names_of_section}
 use Rattle.wasm_examples.proofs.Naming.{Left, all_left, part_came, part_fault, parts_over}
 use Rattle.wasm_examples.proofs.printing.Names.set_section.Goals as goal
 
@@ -20,7 +20,7 @@ loop-subsection-preserved-in-Ok c =
     record {
       can = tt;
       finite = tt;
-      left = subst (λ (n : Names). Left all n c.next.new.self) (sym c.set_subsection.ensures)
+      left = subst (λ (n : EachName). Left all n c.next.new.self) (sym c.set_subsection.ensures)
           (part_came all (texts_of c.loop-subsection.self.list) c.loop-subsection.subsection-iterator c.next.new.self
           c.loop-subsection.invariant.left c.in-Ok.subsection next);
     }
