@@ -1,5 +1,6 @@
 -- Lists whose elements are related in turn.
-use Rattle.std.proofs.Common.{◌≡◌, ◌∙◌, ◌+◌, ◌<◌, ℕ, true, false, List, Ok, Err, Vec, Global, Bor, refl, [], ◌∷◌, ◌++◌, ap, sym, subst₂, map, take, length, get_or}
+use Rattle.std.proofs.Common.{◌≡◌, ◌∙◌, ◌+◌, ◌<◌, ℕ, true, false, List, Ok, Err, Vec, Global, Bor, refl, [], ◌∷◌, ◌++◌, ap, sym, subst₂}
+use Rattle.std.proofs.Common.{map, take, length, get_or}
 use Rattle.std.proofs.lemmas.List.{map-append, map_more, take-map}
 use Rattle.wasm_io.specs.declared.devices.sink.Sink.{Ghosts as SinkOf}
 use Rattle.wasm_io.specs.declared.devices.source.Source.{Ghosts as SourceOf}

@@ -1,5 +1,6 @@
 -- What the commands of the program do with files and devices.
-use Rattle.std.specs.Prelude.{◌≡◌, ◌⊎◌, ℕ, Bool, true, false, List, [], ◌∷◌, codes, map, string_bytes, Option, Some, None}
+use Rattle.std.specs.Prelude.{◌≡◌, ◌⊎◌, ℕ, Bool, true, false, List, [], ◌∷◌, codes, map, string_bytes, Option, Some}
+use Rattle.std.specs.Prelude.{None}
 use Rattle.std.specs.Prelude.{Result, Ok, Err}
 use Rattle.std.specs.declared.io.Error.{Error}
 use Rattle.wasm_commands.specs.ArgumentLists.{Read, Wrong, arguments_of, has_option, values_in}
@@ -40,7 +41,7 @@ Answers step status old new =
     (result : Result (Unit {0}) ℕ) × (status ≡ status_in result) × step result old new
 
 -- | a command that reads files and shows what they have: no file is changed, and what was written was forwarded if the
---   status is 0 or 1 [`IsForwarded`]
+--   status is 0 or 1
 -- The files were used like this, and none was changed.
 pub record Reads {S : Type 0} (uses : (output errors : Device) (status : ℕ) → Type 0) (result : Result (Unit {0}) ℕ)
     (old new : Run S) : Type 0 where
@@ -52,7 +53,7 @@ pub record Reads {S : Type 0} (uses : (output errors : Device) (status : ℕ) �
 abbrev pub set_is_missing : List ℕ
 set_is_missing = about_word verb.Producers (codes "needs ") (codes "--set with --output") []
 
--- | a text that is printed, such as that of `--help`: it is written and forwarded, or the output fails [`WritesOut`]
+-- | a text that is printed, such as that of `--help`: it is written and forwarded, or the output fails
 -- Some text was printed.
 abbrev pub Prints : {S : Type 0} → Result (Unit {0}) ℕ → (old new : Run S) → Type 0
 Prints result old new = (text : List ℕ) × WritesOut text result old new
@@ -86,7 +87,6 @@ module _ {S I O : Type 0} (calls : SystemOf S I O) (sources : SourceOf I) (sinks
   ShowsAsked verb reads (Err text) = Stops 2 text
 
   -- | what `list` and `dump` do with the files that their arguments name, and `producers` that sets nothing
-  --   [`ShowsFile`, `ShowsUnderName`, `IsAsked`]
   -- The system said whether the output is a terminal, and the files were shown.
   abbrev pub Shows : Verb → List Read → Result (Unit {0}) ℕ → (old new : Run S) → Type 0
   Shows verb reads result old new = (is_terminal : Bool) × calls.shows old.system is_terminal

@@ -404,8 +404,8 @@ TakesWords None words file =
     TakesOnce (is_asked_again (is_input file) (map added_in words)) (map added_in words) file
 
 -- The last operand is the file, and those before it are the sections.
-pub record TakesOperands {S : Type 0} (operands : List (List ℕ)) (result : Result (Vec Addition Global × Bor (List ℕ)) ℕ)
-    (old new : Run S) : Type 0 where
+pub record TakesOperands {S : Type 0} (operands : List (List ℕ))
+    (result : Result (Vec Addition Global × Bor (List ℕ)) ℕ) (old new : Run S) : Type 0 where
   pub words : List (List ℕ)
   pub file : List ℕ
   pub are : operands ≡ words ++ file ∷ []

@@ -283,7 +283,8 @@ module _ {S I O : Type 0} (calls : SystemOf S I O) (sources : SourceOf I) (sinks
       × RefusesFor {A = Unit {0}} target cause (Err status) (record old { system = later }) new
 
   -- | a file that is replaced by what was written, if that is complete, and else discarded
-  -- The target was replaced by what was written, or that was discarded, as it was complete or not; or it was said why not.
+  -- The target was replaced by what was written, or that was discarded, as it was complete or not; or it was said why
+  -- not.
   abbrev pub Takes : (target : List ℕ) (written : O) (is_complete : Bool) → Result (Unit {0}) ℕ → (old new : Run S)
       → Type 0
   Takes target written is_complete (Ok done) old new =

@@ -26,8 +26,8 @@ pub record Run (S : Type 0) : Type 0 where
   pub said : Taken
 
 -- the run of a system and two devices
-abbrev pub run_of : {S W E : Type 0} → (contents : W → Option (List ℕ)) (taken : E → Option (List ℕ)) (failed : E → Bool)
-    → (system : S) (output : WriteSink W) (errors : E) → Run S
+abbrev pub run_of : {S W E : Type 0} → (contents : W → Option (List ℕ)) (taken : E → Option (List ℕ))
+    (failed : E → Bool) → (system : S) (output : WriteSink W) (errors : E) → Run S
 run_of contents taken failed system output errors = record {
   system = system;
   written = record { bytes = contents output.writer; failed = output.failed };

@@ -130,6 +130,7 @@ abbrev pub ShowsTitled : (is_json : Bool) → Files → Plan → (name : List �
 ShowsTitled true files plan name output errors status = ShowsFile files plan name output errors status
 ShowsTitled false files plan name output errors status = ShowsUnderName files plan name output errors status
 
+-- | a file that is shown, or several, each under its name [`ShowsFile`, `ShowsUnderName`]
 -- One file was shown, or standard input if none is named; or several files.
 abbrev pub ShowsFiles : Files → Plan → (names : List (List ℕ)) → (output errors : Device) (status : ℕ) → Type 0
 ShowsFiles files plan [] output errors status = ShowsFile files plan (codes "-") output errors status

@@ -17,7 +17,8 @@ use Rattle.wasm_io.specs.declared.devices.ListError.TheVariants.{Input, Output, 
 use Rattle.wasm_dumper.specs.Chosen.{is_chosen, chosen_line, shows_items}
 use Rattle.wasm_output.specs.Numbers.{Number}
 use Rattle.wasm_dumper.specs.Counting.{after, no_counts, numbers_in_line, AreOfItems}
-use Rattle.wasm_output.specs.Tree.{IsShaped, Writing, Origin, IsWritten, AddsNumbers, with_bytes, with_line, with_numbers}
+use Rattle.wasm_output.specs.Tree.{IsShaped, Writing, Origin, IsWritten, AddsNumbers, with_bytes, with_line}
+use Rattle.wasm_output.specs.Tree.{with_numbers}
 use Rattle.wasm_output.specs.Tree.{starts_in}
 use Rattle.wasm_output.specs.declared.tree.Style.{Style}
 use Rattle.wasm_dumper.specs.declared.counts.Counts.{Counts}

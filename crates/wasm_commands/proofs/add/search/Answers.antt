@@ -14,7 +14,8 @@ returns-in-Ok-end g c = record {
   opens = rw c.in-Ok.ensures at c.in-Ok-open.ensures.0;
   middle = c.new-runner.result;
   only = only_written g.W.Write.contents g.E.Sink.taken g.E.Sink.has_failed c.into_parts-system.result.0 c.into_parts-system.result.1
-      c.find_named-how.result.1 c.into_parts-system.result.2 _ _ _ (c.in-Ok-open.ensures.1 ∙ c.in-Ok.ensures) c.into_parts-system.ensures c.new-runner.ensures;
+      c.find_named-how.result.1 c.into_parts-system.result.2 _ _ _
+      (c.in-Ok-open.ensures.1 ∙ c.in-Ok.ensures) c.into_parts-system.ensures c.new-runner.ensures;
   how = c.find_named-how.result.0;
   ends = c.in-Ok-end.ensures;
 }
@@ -25,7 +26,8 @@ returns g c = inr (inr (record {
   opens = rw c.in-Ok.ensures at c.in-Ok-open.ensures.0;
   middle = c.new-runner.result;
   only = only_written g.W.Write.contents g.E.Sink.taken g.E.Sink.has_failed c.into_parts-system.result.0 c.into_parts-system.result.1
-      c.find_named-how.result.1 c.into_parts-system.result.2 _ _ _ (c.in-Ok-open.ensures.1 ∙ c.in-Ok.ensures) c.into_parts-system.ensures c.new-runner.ensures;
+      c.find_named-how.result.1 c.into_parts-system.result.2 _ _ _
+      (c.in-Ok-open.ensures.1 ∙ c.in-Ok.ensures) c.into_parts-system.ensures c.new-runner.ensures;
   how = c.find_named-how.result.0;
   ends = c.in-Err-end.ensures;
 }))

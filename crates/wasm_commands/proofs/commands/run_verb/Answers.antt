@@ -7,13 +7,15 @@ use Rattle.wasm_commands.proofs.commands.run_verb.Goals as goal
 
 pub returns-in-Ok-Ok : goal.returns-in-Ok-Ok
 returns-in-Ok-Ok g c =
-    let parsed = granted (λ p. parsed_of p ≡ arguments_of c.args.verb (map string_bytes c.args.words.now)) c.parse.result c.in-Ok-Ok.field-0 _ _
+    let parsed = granted (λ p. parsed_of p ≡ arguments_of c.args.verb (map string_bytes c.args.words.now)) c.parse.result
+    c.in-Ok-Ok.field-0 _ _
     c.in-Ok-Ok.ensures c.parse.ensures in
     inl (tt, c.allocated.new.self, parsed.0, rw (← parsed.1, c.in-Ok-Ok.field-0-is) c.run_parsed.ensures)
 
 pub returns-in-Ok-Err : goal.returns-in-Ok-Err
 returns-in-Ok-Err g c =
-    let parsed = granted (λ p. parsed_of p ≡ arguments_of c.args.verb (map string_bytes c.args.words.now)) c.parse.result c.in-Ok-Err.field-0 _ _
+    let parsed = granted (λ p. parsed_of p ≡ arguments_of c.args.verb (map string_bytes c.args.words.now)) c.parse.result
+    c.in-Ok-Err.field-0 _ _
     c.in-Ok-Err.ensures c.parse.ensures in
     inl (
       tt,

@@ -54,6 +54,16 @@ returns g c =
         (c.in_ok-wanted.wanted, c.in_ok-wanted.name),
         c.wanted_of.new.self,
         rw (c.deref.ensures.value, taken.1) at c.in_ok-wanted.ensures,
-        inl (c.in_ok-before.before, c.skips_of.new.self, c.in_ok-before.ensures, inl (c.in_ok-bytes.bytes, c.hold.new.self, c.in_ok-bytes.ensures, rw (c.deref-2.ensures.value, c.target_of.ensures) at c.extract_from.ensures)),
+        inl (
+          c.in_ok-before.before,
+          c.skips_of.new.self,
+          c.in_ok-before.ensures,
+          inl (
+            c.in_ok-bytes.bytes,
+            c.hold.new.self,
+            c.in_ok-bytes.ensures,
+            rw (c.deref-2.ensures.value, c.target_of.ensures) at c.extract_from.ensures,
+          ),
+        ),
       ),
     )

@@ -39,7 +39,9 @@ returns-else-reads_input_twice g c =
         tt,
         c.allocated.new.self,
         parsed.0,
-        asked_once (texts c.in-Some.field-0.words.now) c.in-Some.field-0.file.now 0 c.allocated.new.self c.allocated.new.self c.in-Ok.additions (rw c.in-Ok.is at parsed.1)
+        asked_once (texts c.in-Some.field-0.words.now) c.in-Some.field-0.file.now 0 c.allocated.new.self
+            c.allocated.new.self c.in-Ok.additions
+            (rw c.in-Ok.is at parsed.1)
             c.in-Some.field-0.file refl (sym (rw c.deref.ensures.value at c.reads_input_twice.ensures) ∙ c.if-reads_input_twice.false),
       );
     })

@@ -56,6 +56,11 @@ returns g c =
         (c.in_ok-additions.additions, c.in_ok-additions.file),
         c.additions_of.new.self,
         rw (c.deref.ensures.value, taken.1) at c.in_ok-additions.ensures,
-        inl (c.in_ok-loaded.loaded, c.load_all.new.self, rw c.deref-2.ensures.value at c.in_ok-loaded.ensures, inl (c.in_ok-original.original, c.find.new.self, c.in_ok-original.ensures, (refl, refl))),
+        inl (
+          c.in_ok-loaded.loaded,
+          c.load_all.new.self,
+          rw c.deref-2.ensures.value at c.in_ok-loaded.ensures,
+          inl (c.in_ok-original.original, c.find.new.self, c.in_ok-original.ensures, (refl, refl)),
+        ),
       ),
     )
