@@ -179,7 +179,7 @@ fn modules(text: &mut Text) -> Result<(), Fault> {
         let word = text.at(at);
         let new = match word {
             "crate" if is_path => format!("{}::{}", text.root, text.module),
-            "std" | "bitflags" if is_path => format!("{}::{word}", text.root),
+            "std" | "bitflags" | "test_devices" if is_path => format!("{}::{word}", text.root),
             _ if is_path && word.starts_with("wasm_") => format!("{}::{}", text.root, module_of(word)),
             _ => {
                 at += 1;
