@@ -10,7 +10,7 @@ const IS_PROGRAM: &str = "PULLEYNAVY_ROWS";
 
 fn main() -> ExitCode {
     if env::var_os(IS_PROGRAM).is_some() {
-        return pulleynavy_program::rows::main();
+        return pulleynavy_program::test_rows::main();
     }
     let folder = Path::new(env!("CARGO_MANIFEST_DIR")).join("crates/test_rows");
     let rows = fs::File::open(folder.join("stdin")).expect("the rows");
