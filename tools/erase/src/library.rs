@@ -11,7 +11,7 @@ const CRATES: [&str; 8] = ["wasm_base", "wasm_grammar", "wasm_frames", "wasm_ite
 
 /// Of these crates only these files are taken.
 const TAKEN: [(&str, &[&str]); 3] = [
-    ("text", &["mod", "digits", "short_text"]),
+    ("io", &["mod", "digits", "short_text"]),
     ("streams", &["mod", "buffer", "cursor", "parser"]),
     ("edits", &["mod", "editing", "edits", "encoding", "fates", "stripping"]),
 ];
