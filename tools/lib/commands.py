@@ -9,7 +9,7 @@ COMMANDS = {
         "builds": ("compare_builds", "the program that cargo builds with that of Rattle's compiler, on random streams"),
         "readings": ("compare_builds:readings", "what both compilers' programs read of random streams, in chunks too, and of items"),
         "listings": ("compare_streams:listings", "listings of random streams"),
-        "check": ("compare_dumps:check", "the malformed items of random streams and of modules"),
+        "check": ("compare_dumps:check", "the faults and warnings of `check`, of random streams and of modules"),
         "checks": ("compare_checks", "what `check` of the command line, the wheel and the npm package say of changed files"),
         "dump": ("compare_dumps:dump", "dumps of random streams and of modules"),
         "edits": ("compare_streams:edits", "streams with custom sections that were added, replaced and extracted"),

@@ -11,7 +11,7 @@ from common import number_at
 from items import CUSTOM, ROWS, SECTIONS, mutated
 from modules import stream_of
 from streams import random_bytes, some_large_stream
-from texts import dump_lines, in_hex
+from texts import custom_name, dump_lines, in_hex
 
 # ---- dumps
 
@@ -53,30 +53,40 @@ def dump():
 
 # ---- malformed items
 
-# A fault in a line of the model, and a line of `pulleynavy check`.
-MODELS_FAULT, FAULT = re.compile(r"\bfault (\d+) "), re.compile(r"standard input: 0x([0-9a-f]+): .*?(, in custom section \"target_features\")?$")
+FAULT = re.compile(r" *fault (\d+) (.*)")
+
+
+def faults_in(model, data):
+    """The lines of a check: a warning of each section with an unknown id; of each fault its offset, its text, and the section of the item."""
+    for line, ident, items in model.walked(data, readers=model.CHECKED, at_once=True):
+        word, *numbers = line.split(" ")
+        if word == "unknown":
+            yield "0x%x: warning: unknown section id: %s" % (int(numbers[1]), numbers[0])
+        site = ", in section " + S.NAMES[ident] if word == "section" else ", in custom section " + custom_name(items[0][1]) if word == "custom" else ""
+        lines = [line, *(below for at, item in items for below in model.lines_of(item, at))]
+        yield from ("0x%x: %s%s" % (int(found[1]), found[2], site) for found in map(FAULT.fullmatch, lines) if found)
 
 
 def check_differs(given, data):
-    """What `check` reports otherwise than the model, by the offsets of faults, and whether its status says so, with `--quiet` too."""
-    lines, words = dump_lines(given.known, data), given.command
-    wanted = [int(offset) for line in lines for offset in MODELS_FAULT.findall(line)]
-    output, status, errors = programs.run(words, data)
-    found = [FAULT.match(line) for line in output.decode().splitlines()]
-    if errors or None in found or status != bool(found) or programs.run([*words, "--quiet"], data) != (b"", status, b""):
-        return "status %d for %d faults, or it says something else: %r" % (status, len(found), (output + errors)[:200])
-    # The model leaves a section unread whose head is malformed, as `as_known` does, but for `check`.
-    said = [int(one[1], 16) for one in found if not one[2] or int(one[1], 16) in wanted]
-    return None if said == wanted else "faults at %s, and the model's at %s" % (said, wanted)
+    """What `check` writes otherwise than the model, and whether its status says if there is a fault, with `--quiet` too."""
+    wanted = ["standard input: " + line for line in faults_in(given.known, data)]
+    lines, status, errors = programs.lines_of(given.command, data)
+    has_fault = any(line.split(": ")[2] != "warning" for line in wanted)
+    found = common.first_difference(lines, wanted)
+    if found or errors or status != has_fault:
+        return found or "status %d, and it says %r" % (status, errors[:200])
+    quiet = programs.run([*given.command, "--quiet"], data)
+    return None if quiet == (b"", has_fault, b"") else "with --quiet status %d, and it writes %r" % (quiet[1], (quiet[0] + quiet[2])[:200])
 
 
 def check():
-    """Checks random streams and given files, and compares where `pulleynavy check` reports faults with where a model finds them.
+    """Checks random streams and given files, and compares what `pulleynavy check` reports with what a model finds.
 
     tools/compare check               2,000 streams, from seed 1
     tools/compare check 7 0 a.wasm    the modules of a file, or of an archive
 
-    The status must be 1 exactly if a fault is reported, and with --quiet the same, with nothing written.
+    Each fault must have the offset, text and section of the model's, and each section with an unknown id a warning. The status must be 1 exactly if
+    there is a fault, and with --quiet the same, with nothing written.
     """
     return comparing.random_streams(check.__doc__, "check", common.MODEL_OF_ITEMS, check_differs, stream_of, some_large_stream)
 

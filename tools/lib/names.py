@@ -19,7 +19,7 @@ QUOTED = re.compile(r"`([^`]+)`")
 SEVERAL = r"(?:`[^`]+`(?: \([^)]*\))?(?:,? and |, )?)+"
 ON = re.compile(r"(%s)(?<! ) (?:on|of) (?:the trait )?((?:`[^`]+`(?:, | and )?)+)" % SEVERAL)
 AT_FILE = re.compile(r"((?:`\w+`(?:, | and )?)+) in `([\w/.]+\.(?:antt|rt|rs|py))`")
-OF_CRATE = re.compile(r"((?:`[\w:]+`(?:, | and )?)+) of `(wasm_\w+)`")
+OF_CRATE = re.compile(r"((?:`[\w:]+`(?:, | and )?)+) of `((?:wasm|test)_\w+)`")
 
 # Names that no source of this repository declares, by where they come from.
 ELSEWHERE = {
@@ -74,7 +74,7 @@ def rows_of(path, count):
     crates, is_row = [], False
     for number, line in prose(path):
         if line.startswith("#"):
-            crates = [name for name in re.findall(r"`(wasm_\w+)`", line) if name in common.crates()]
+            crates = [name for name in re.findall(r"`((?:wasm|test)_\w+)`", line) if name in common.crates()]
         cells = [cell.strip() for cell in line.strip("|").split(" | ")]
         if is_row and line.startswith("|") and len(cells) == count:
             yield number, crates, cells
@@ -147,7 +147,7 @@ def wrong_definitions(path):
     for number, heading, cells in rows_of(path, 3):
         module = None
         for part in cells[1].split(";") if heading else ():
-            own = re.match(r"\s*`(wasm_\w+)`:", part)
+            own = re.match(r"\s*`((?:wasm|test)_\w+)`:", part)
             crates = [own[1]] if own else heading
             for file, _, name in (quoted.rpartition(".") for quoted in QUOTED.findall(part[own.end() :] if own else part)):
                 module = file or module

@@ -32,6 +32,11 @@ class Numbers:
         return model.lines_of(model.Item(item, "%s %s" % (self.next(space), item.line), item.under), at)
 
 
+def custom_name(item):
+    """The name of a custom section in quotes, by what the model says of it."""
+    return CUSTOM.match("  " + item.line)[1]
+
+
 def with_end(line, ident, bodies, items):
     """The line of an event, with what a dump adds to that of a listing: the name of its section, its size, the number of the function of a body, and
     the name of a custom section."""
@@ -40,7 +45,7 @@ def with_end(line, ident, bodies, items):
         return line
     start, end = numbers[word in ("section", "unknown") :][:2]
     name = " " + S.NAMES[ident] if word == "section" else ""
-    last = " " + bodies.next("func") if word == "body" else " " + CUSTOM.match("  " + items[0][1].line)[1] if word == "custom" else ""
+    last = " " + bodies.next("func") if word == "body" else " " + custom_name(items[0][1]) if word == "custom" else ""
     return "%s%s size=%d%s" % (line, name, int(end) - int(start), last)
 
 

@@ -86,7 +86,7 @@ def imports(names, traits, code):
 
 def written(folder, crates):
     """Writes the crate of tests. The path and the line of each example, by the name of its test."""
-    named = {name for crate in crates for _, _, lines in examples(crate) for name in re.findall(r"\buse (wasm_\w+)", "\n".join(lines))}
+    named = {name for crate in crates for _, _, lines in examples(crate) for name in re.findall(r"\buse ((?:wasm|test)_\w+)", "\n".join(lines))}
     again = {name for crate in crates for name in exporting(crate)}
     wanted, places = trial.copied(folder, {*crates, *named, *again}), {}
     source = os.path.join(folder, "crates", CRATE, "src")

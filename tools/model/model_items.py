@@ -799,14 +799,28 @@ coreinstances = finish(called("instances", many(instance, "instance")))
 corestack = finish(start("core dump stack name", called("thread frames", text, many(frame, "frame"))))
 
 KNOWN = {"name": names, "metadata.code.branch_hint": called("functions", hints), "producers": called("fields", producers), "dylink.0": dylink, "core": core,
-         "coremodules": finish(coremodules), "coreinstances": coreinstances, "corestack": corestack, "linking": linking}
+         "coremodules": finish(coremodules), "coreinstances": coreinstances, "corestack": corestack, "linking": linking, "reloc.": reloc}
 # A dump has the features too, which other callers of the parser have to ask for.
 SHOWN = {**KNOWN, "target_features": called("features", features)}
 
 
+def or_refused(f):
+    """Reads what `f` reads; if that refuses the data, there is nothing but its fault."""
+    def read(r):
+        try:
+            return f(r)
+        except Fault as e:
+            return Item("unknown", under=[e.line()])
+    return read
+
+
+# A check reports also why a reader refuses the data of its section.
+CHECKED = {n: or_refused(f) for n, f in SHOWN.items()}
+
+
 def known(n, r, readers=KNOWN):
     """What a custom section of this name says, if it is known."""
-    f = readers.get(n, reloc if n.startswith("reloc.") else None)
+    f = readers.get("reloc." if n.startswith("reloc.") else n)
     try:
         return f(r) if f else Item("unknown")
     except Fault:
