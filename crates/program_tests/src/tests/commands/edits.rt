@@ -1,5 +1,5 @@
 // The commands `add` and `extract`.
-use super::system::{Change, Files, Named};
+use super::system::{Change, Files, Named, created};
 use super::{CODELESS, answers, changes, run_over, words_of};
 use std::alloc::Global;
 use std::io::{self, ErrorKind, Write};
@@ -303,7 +303,7 @@ fn sets_the_first_section_alone(rt: HostRuntime) -> Result<(), Fail> {
         answers(&rt, rt.alloc(), words, &files, (status, written, said))?;
     }
     let words = ["producers", "--set", "language=Rust:1.90", "both", "-oout"];
-    let trace = [Change::Created("out"), Change::Replaced(FIRST_NEWER.len())];
+    let trace = [created("out"), Change::Replaced(FIRST_NEWER.len())];
     changes(&rt, rt.alloc(), &words, &files, (0, b"", b""), &trace)
 }
 

@@ -1,5 +1,5 @@
 // The command `strip`.
-use super::system::{Change, Files, Named};
+use super::system::{Change, Files, Named, created};
 use super::{CODELESS, answers, changes, runs};
 use std::alloc::Global;
 use std::process::Abort;
@@ -108,13 +108,13 @@ fn replaces_a_file_once_it_is_complete(rt: HostRuntime) -> Result<(), Fail> {
         (["strip", "-o=x", "a"], "=x"),
         (["strip", "--output=a", "a"], "a"),
     ] {
-        let trace = [Change::Created(target), Change::Replaced(8)];
+        let trace = [created(target), Change::Replaced(8)];
         writes(&rt, alloc, &words, (0, b""), &trace)?;
     }
     let words = ["strip", "a", "-o", "out"];
-    let trace = [Change::Created("out"), Change::Replaced(8)];
+    let trace = [created("out"), Change::Replaced(8)];
     writes(&rt, alloc, &words, (0, b""), &trace)?;
-    let trace = [Change::Created("out"), Change::Discarded];
+    let trace = [created("out"), Change::Discarded];
     writes(&rt, alloc, &["strip", "bad", "-oout"], (1, FAULT), &trace)?;
     let said = b"pulleynavy: none: No such file or directory\n";
     writes(&rt, alloc, &["strip", "none", "-oout"], (3, said), &[])?;
@@ -122,6 +122,6 @@ fn replaces_a_file_once_it_is_complete(rt: HostRuntime) -> Result<(), Fail> {
     writes(&rt, alloc, &["strip", "a", "-odenied"], (3, said), &[])?;
     let said = b"pulleynavy: full: No space left on device\n";
     let words = ["strip", "a", "--keep-names", "-o", "full"];
-    let trace = [Change::Created("full"), Change::Discarded];
+    let trace = [created("full"), Change::Discarded];
     writes(&rt, alloc, &words, (3, said), &trace)
 }

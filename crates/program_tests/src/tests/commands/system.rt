@@ -18,8 +18,8 @@ pub(super) struct Named<'a> {
 /// What was done to a file.
 #[derive(Clone, Copy, PartialEq)]
 pub(super) enum Change {
-    /// One was created to replace this one.
-    Created(&'static str),
+    /// One was created to replace the target with this number.
+    Created(usize),
     /// One was replaced by this many bytes.
     Replaced(usize),
     /// What was written was discarded.
@@ -29,14 +29,16 @@ pub(super) enum Change {
 // The names of files that tests replace.
 const TARGETS: [&str; 5] = ["out", "=x", "a", "denied", "full"];
 
-// The name of a file that is replaced: of one that no test replaces, an empty text.
-fn target(name: &str) -> &'static str {
-    for known in TARGETS {
-        if known == name {
-            return known;
+/// A file is created to replace the one with this name, or one that no test replaces.
+pub(super) fn created(name: &str) -> Change {
+    let mut number = 0usize;
+    for target in TARGETS {
+        if target == name {
+            return Change::Created(number);
         }
+        number = number.saturating_add(1);
     }
-    ""
+    Change::Created(number)
 }
 
 /// Standard input, and files. Reading the file `broken` fails, and so does creating `denied`.
@@ -77,12 +79,13 @@ impl<'a> Files<'a> {
         self.trace.get(..self.count).unwrap_or(&[])
     }
 
-    // Notes what was done. More than the trace holds is noted in place of the last.
+    // Notes what was done. What the trace has no place for is noted in place of the last.
     fn note(&mut self, change: Change) {
-        if let Some(place) = self.trace.get_mut(self.count.min(3)) {
+        let at = self.count.min(3);
+        if let Some(place) = self.trace.get_mut(at) {
             *place = change;
         }
-        self.count = self.count.saturating_add(1);
+        self.count = at + 1;
     }
 }
 
@@ -176,7 +179,7 @@ impl<'a> System for Files<'a> {
         if name == "denied" {
             return Err(cause(ErrorKind::PermissionDenied));
         }
-        self.note(Change::Created(target(name)));
+        self.note(created(name));
         let room = if name == "full" { 9 } else { 100 };
         match BoundedSink::new(alloc, room) {
             Ok(output) => Ok(output),
