@@ -1,12 +1,8 @@
 pub mod Collected
-pub mod Each
+pub mod Common
 pub mod Ending
 pub mod Folding
-pub mod Importing
-pub mod Lines
-pub mod Loading
-pub mod Naming
-pub mod Payloads
-pub mod Starting
-pub mod Sums
+pub mod Items
+pub mod Parts
+pub mod Texts
 pub mod Visiting

@@ -1,14 +1,11 @@
 -- The custom sections of a stream, with their sizes.
 use Rattle.std.specs.Borrow.{Bor}
-use Rattle.std.specs.Prelude.{◌≡◌, ◌⊎◌, ℕ, ◌-◌, List, [], ◌∷◌, length, map, string_bytes, Vec, Result, Ok, Err}
-use Rattle.wasm_base.specs.FaultAt.{fault_at}
-use Rattle.wasm_base.specs.Owned.{out_of_memory}
+use Rattle.std.specs.Prelude.{◌≡◌, ℕ, ◌-◌, List, [], ◌∷◌, length, flat_map, map, string_bytes, Vec, Result, Ok, Err}
 use Rattle.wasm_base.specs.Window.{Window, Place, place, advanced}
 use Rattle.wasm_base.specs.declared.error.Error.{Error}
-use Rattle.wasm_grammar.specs.Content.{ended, fault}
 use Rattle.wasm_grammar.specs.Reading.{Report, custom_section, Event}
 use Rattle.wasm_feed.specs.Pieces.{joined}
-use Rattle.wasm_examples.specs.Collecting.{Collects}
+use Rattle.wasm_examples.specs.Visits.{ReadsAll, ReadsToFault}
 use Rattle.wasm_examples.specs.declared.customs.CustomSize.{CustomSize}
 
 -- where the data of a custom section begin, in the section's window
@@ -33,6 +30,5 @@ sizes_in list = map (λ c. (string_bytes c.name, c.size)) list.items
 abbrev pub ListsCustoms : {A : Type 0} (pieces : List (Bor (List ℕ))) (features : ℕ) → Result (Vec CustomSize A) Error
     → Type 0
 ListsCustoms pieces features (Ok list) =
-    (offset : ℕ) × Collects customs_of (joined pieces) features [] (ended offset) (sizes_in list)
-ListsCustoms pieces features (Err e) = (fault_at e ≡ out_of_memory)
-    ⊎ ((before : List (List ℕ × ℕ)) × Collects customs_of (joined pieces) features [] (fault (fault_at e)) before)
+    ReadsAll (λ events. sizes_in list ≡ flat_map customs_of events) (joined pieces) features
+ListsCustoms pieces features (Err e) = ReadsToFault (λ events. Unit {0}) (joined pieces) features e

@@ -1,5 +1,4 @@
 pub mod Careless
-pub mod Collecting
 pub mod Compiling
 pub mod Customs
 pub mod Folding

@@ -2,17 +2,14 @@
 -- Linking.
 use Rattle.std.specs.declared.ops.Range.{Range}
 use Rattle.std.specs.List.{starts_with}
-use Rattle.std.specs.Prelude.{◌≡◌, ◌⊎◌, ℕ, zero, suc, ◌+◌, List, [], ◌∷◌, ◌++◌, length, map, option_map, slice_get}
-use Rattle.std.specs.Prelude.{nat_lt, nat_le, nat_eq, codes, bytes_eq, Option, Some, None, Result, Ok, Err}
+use Rattle.std.specs.Prelude.{ℕ, ◌+◌, List, [], ◌∷◌, ◌++◌, map, option_map, slice_get}
+use Rattle.std.specs.Prelude.{nat_le, nat_eq, codes, bytes_eq, Option, Some, None, Result, Ok, Err}
 use Rattle.std.specs.Prelude.{if◌then◌else◌}
-use Rattle.wasm_base.specs.FaultAt.{FaultAt, fault_at, at_offset}
-use Rattle.wasm_base.specs.Outcome.{Outcome, ◌>>=◌}
-use Rattle.wasm_base.specs.Owned.{out_of_memory}
+use Rattle.wasm_base.specs.FaultAt.{FaultAt}
+use Rattle.wasm_base.specs.Outcome.{◌>>=◌}
 use Rattle.wasm_base.specs.Section.{Section}
-use Rattle.wasm_base.specs.Subsections.{subsection_at}
-use Rattle.wasm_base.specs.Window.{Window, Place, place, whole_window}
+use Rattle.wasm_base.specs.Window.{Window, place, whole_window}
 use Rattle.wasm_base.specs.declared.error.Error.{Error}
-use Rattle.wasm_base.specs.declared.fault.Fault.TheVariants.{SizeMismatch}
 use Rattle.wasm_custom.specs.Linking.{SymbolParts, symbol_parts, symbol_at, LinkingParts, listed, LinkingSection}
 use Rattle.wasm_custom.specs.Linking.{linking_subsection_in, linking_in}
 use Rattle.wasm_custom.specs.Reloc.{number_of, relocated_range, relocation_at, reloc_section_in}
@@ -22,7 +19,7 @@ use Rattle.wasm_grammar.specs.Content.{fault}
 use Rattle.wasm_grammar.specs.Reading.{Report, custom_section, stream_end}
 use Rattle.wasm_grammar.specs.Sections.{section_of}
 use Rattle.wasm_examples.specs.Customs.{data_place}
-use Rattle.wasm_examples.specs.Folding.{ReadsTo}
+use Rattle.wasm_examples.specs.Folding.{IsFold, items_at, subsections_at, with_each, after_each}
 use Rattle.wasm_examples.specs.declared.linking.Fixup.{Fixup}
 use Rattle.wasm_examples.specs.declared.linking.Linked.{Linked}
 
@@ -85,42 +82,28 @@ fixup_of m section entry = record {
 
 -- ---- one part more
 
--- what this many items from a place on add, one after the other, and nothing after them; or the first fault
-abbrev pub each_from : {S T : Type 0} → (S → T → S) → (Place → Outcome T) → S → (left : ℕ) → Place → Result S FaultAt
-each_from add read s zero p = if nat_lt 0 (length p.rest) then Err (at_offset SizeMismatch p.offset) else Ok s
-each_from add read s (suc left) p = read p >>= (λ x. each_from add read (add s x.0) left x.1)
-
 abbrev pub with_symbol : LinkedParts → SymbolParts → LinkedParts
 with_symbol m symbol = record m { symbols = m.symbols ++ symbol ∷ [] }
 
 abbrev pub with_symbols : LinkedParts → Section → Result LinkedParts FaultAt
-with_symbols m s = each_from with_symbol symbol_at m s.count (place s.reader)
+with_symbols m s = with_each with_symbol m (items_at symbol_at s.count (place s.reader))
 
 -- a subsection: symbols have the id 8
 abbrev pub with_subsection : LinkedParts → LinkingParts → Result LinkedParts FaultAt
 with_subsection m (listed id section) = if nat_eq id 8 then with_symbols m section else Ok m
 with_subsection m other = Ok m
 
--- a subsection by its id and its window
-abbrev pub with_window : LinkedParts → ℕ → Window → Result LinkedParts FaultAt
-with_window m id window = linking_subsection_in id window >>= (λ subsection. with_subsection m subsection)
-
--- the subsections from a place on, at most `most`
-abbrev pub with_subsections : LinkedParts → (most : ℕ) → Place → Result LinkedParts FaultAt
-with_subsections m zero p = Ok m
-with_subsections m (suc most) p = if nat_eq (length p.rest) 0 then Ok m else
-    subsection_at p >>= (λ head. with_window m head.0.0 head.0.1 >>= (λ n. with_subsections n most head.1))
-
--- the section for linkers. A subsection takes a byte at least, so there are no more of them than bytes.
+-- the section for linkers
 abbrev pub with_linking : LinkedParts → LinkingSection → Result LinkedParts FaultAt
-with_linking m s = with_subsections m (length (place s.subsections).rest) (place s.subsections)
+with_linking m s = after_each (λ f. f) with_subsection m (subsections_at linking_subsection_in (place s.subsections))
 
 abbrev pub with_relocation : (section : ℕ) → LinkedParts → RelocationEntry → LinkedParts
 with_relocation section m entry = record m { fixups = m.fixups ++ fixup_of m section entry ∷ [] }
 
 -- a section of relocations
 abbrev pub with_relocations : LinkedParts → RelocSectionReader → Result LinkedParts FaultAt
-with_relocations m s = each_from (with_relocation s.section) relocation_at m s.entries.count (place s.entries.reader)
+with_relocations m s =
+    with_each (with_relocation s.section) m (items_at relocation_at s.entries.count (place s.entries.reader))
 
 -- a custom section, by its name
 abbrev pub with_custom : LinkedParts → (name : List ℕ) → Window → Result LinkedParts FaultAt
@@ -152,5 +135,4 @@ linked m report = with_if_custom (with_section m (section_of report)) report
 -- This is what a linker fills in of the module that the stream is, by its reading with all features from offset 0; or
 -- the module has this fault; or memory was refused.
 abbrev pub IsLinked : List ℕ → Result Linked Error → Type 0
-IsLinked stream (Ok m) = ReadsTo linked no_parts stream (Ok (linked_parts m))
-IsLinked stream (Err e) = (fault_at e ≡ out_of_memory) ⊎ ReadsTo linked no_parts stream (Err (fault_at e))
+IsLinked = IsFold linked_parts linked no_parts

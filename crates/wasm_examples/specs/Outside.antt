@@ -1,15 +1,10 @@
 -- What a module needs from its outside and provides to it, as a loader wants it.
-use Rattle.std.specs.Prelude.{◌≡◌, ◌⊎◌, ℕ, zero, suc, ◌+◌, ◌-◌, ◌^◌, min, List, [], ◌∷◌, ◌++◌, length, map, nat_lt}
+use Rattle.std.specs.Prelude.{◌≡◌, ℕ, ◌+◌, ◌-◌, ◌^◌, min, List, [], ◌∷◌, ◌++◌, length, map, nat_lt}
 use Rattle.std.specs.Prelude.{nat_eq, Result, Ok, Err, if◌then◌else◌}
-use Rattle.wasm_base.specs.FaultAt.{FaultAt, fault_at, at_offset}
-use Rattle.wasm_base.specs.Number.{unsigned_at}
-use Rattle.wasm_base.specs.Outcome.{Outcome}
+use Rattle.wasm_base.specs.FaultAt.{FaultAt, fault_at}
 use Rattle.wasm_base.specs.Owned.{out_of_memory}
-use Rattle.wasm_base.specs.Window.{Window, Place, place}
-use Rattle.wasm_base.specs.declared.fault.Fault.TheVariants.{SizeMismatch}
-use Rattle.wasm_base.specs.declared.fault.NumberKind.TheVariants.{VarU32}
+use Rattle.wasm_base.specs.Window.{Place, place}
 use Rattle.wasm_items.specs.Exports.{ExportParts, export_parts, export_at}
-use Rattle.wasm_items.specs.Flattened.{flattened, import_alone}
 use Rattle.wasm_items.specs.Imports.{ImportParts, import_parts}
 use Rattle.wasm_items.specs.declared.exports.ExternalKind.{ExternalKind}
 use Rattle.wasm_items.specs.declared.exports.ExternalKind.TheVariants as kinds
@@ -17,7 +12,8 @@ use Rattle.wasm_items.specs.declared.imports.TypeRef.{TypeRef}
 use Rattle.wasm_items.specs.declared.imports.TypeRef.TheVariants as types
 use Rattle.wasm_grammar.specs.Content.{fault}
 use Rattle.wasm_grammar.specs.Reading.{Report, counted, stream_end}
-use Rattle.wasm_examples.specs.Folding.{unless_refused, ReadsTo}
+use Rattle.wasm_examples.specs.Folding.{ComesTo, ReturnsFold, after_each, items_at}
+use Rattle.wasm_examples.specs.Imported.{imports_in, items_place}
 use Rattle.wasm_examples.specs.declared.outside.Misfit.{Misfit}
 use Rattle.wasm_examples.specs.declared.outside.Misfit.TheVariants as misfits
 use Rattle.wasm_examples.specs.declared.outside.Outside.{Outside}
@@ -97,24 +93,9 @@ abbrev pub with_export : OutsideParts → ExportParts → Result OutsideParts Re
 with_export o e = if nat_lt e.index (span_of o.spans e.kind) then Ok (record o { exports = o.exports ++ e ∷ [] }) else
     Err (no_such (length o.exports))
 
--- an outcome, whose fault ends all
-abbrev pub or_fault : {A : Type 0} → Outcome A → Result (A × Place) Refused
-or_fault (Ok x) = Ok x
-or_fault (Err f) = Err (at_fault f)
-
 -- this many exports from a place on, and nothing after them
-abbrev pub exported : OutsideParts → (left : ℕ) → Place → Result OutsideParts Refused
-exported o zero p = if nat_lt 0 (length p.rest) then Err (at_fault (at_offset SizeMismatch p.offset)) else Ok o
-exported o (suc left) p = unless_refused (or_fault (export_at p))
-    (λ x. unless_refused (with_export o x.0) (λ q. exported q left x.1))
-
--- where the items of a section begin: after its count
-abbrev pub after_number : Outcome ℕ → Place → Place
-after_number (Ok x) p = x.1
-after_number (Err f) p = p
-
-abbrev pub items_place : Window → Place
-items_place w = after_number (unsigned_at VarU32 (place w)) (place w)
+abbrev pub exported : OutsideParts → (count : ℕ) → Place → Result OutsideParts Refused
+exported o count p = after_each at_fault with_export o (items_at export_at count p)
 
 -- this many more of the kind that a section with this id defines
 abbrev pub with_section : OutsideParts → ExternalKind → ℕ → Result OutsideParts Refused
@@ -125,7 +106,7 @@ with_section o kind count = Ok (record o { spans = with_span o.spans kind count 
 -- what a part of the module adds: imports, functions, tables, memories, globals, exports and tags
 abbrev pub noted : OutsideParts → Report → Result OutsideParts Refused
 noted o (counted id count window) =
-    if nat_eq id import_id then imported o (map import_alone (flattened count (items_place window)))
+    if nat_eq id import_id then imported o (imports_in count window)
     else if nat_eq id function_id then with_section o kinds.Func count
     else if nat_eq id table_id then with_section o kinds.Table count
     else if nat_eq id memory_id then with_section o kinds.Memory count
@@ -138,21 +119,21 @@ noted o other = Ok o
 
 -- ---- what calls return
 
--- This is the result, or an allocation failed.
-abbrev pub Comes : Result OutsideParts Refused → Result (Unit {0}) Misfit → (after : OutsideParts) → Type 0
-Comes of (Ok done) after = of ≡ Ok after
-Comes of (Err (misfits.Stream e)) after = (fault_at e ≡ out_of_memory) ⊎ (of ≡ Err (at_fault (fault_at e)))
-Comes of (Err (misfits.NoSuch place)) after = of ≡ Err (no_such place)
-
 -- Memory was refused.
 abbrev pub IsMemory : Misfit → Type 0
 IsMemory (misfits.Stream e) = fault_at e ≡ out_of_memory
 IsMemory (misfits.NoSuch place) = ⊥
 
+-- why a module has no outside
+abbrev pub refused_as : Misfit → Refused
+refused_as (misfits.Stream e) = at_fault (fault_at e)
+refused_as (misfits.NoSuch place) = no_such place
+
+-- This is the result, or an allocation failed.
+abbrev pub Comes : Result OutsideParts Refused → Result (Unit {0}) Misfit → (after : OutsideParts) → Type 0
+Comes = ComesTo IsMemory refused_as
+
 -- This is the outside of the module that the stream is, by its reading with all features from offset 0; or it has none,
 -- for this reason; or memory was refused.
 abbrev pub IsOutside : List ℕ → Result Outside Misfit → Type 0
-IsOutside stream (Ok o) = ReadsTo noted no_parts stream (Ok (outside_parts o))
-IsOutside stream (Err (misfits.Stream e)) = (fault_at e ≡ out_of_memory)
-    ⊎ ReadsTo noted no_parts stream (Err (at_fault (fault_at e)))
-IsOutside stream (Err (misfits.NoSuch place)) = ReadsTo noted no_parts stream (Err (no_such place))
+IsOutside = ReturnsFold IsMemory refused_as outside_parts noted no_parts

@@ -13,6 +13,7 @@ use wasm_base::{Error, Fault, Result};
 use wasm_items::{Import, ImportSection, ImportSectionReader};
 use wasm_parser::{Parser, Payload};
 
+#[tactic(auto, using(crate::proofs::Folding::begun))]
 /// Returns a line for each import of a module: the name of the module that it comes from, a blank, and its own name.
 ///
 /// # Errors

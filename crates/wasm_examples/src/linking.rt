@@ -95,6 +95,7 @@ impl<'a> Linked<'a> {
         Ok(())
     }
 
+    #[tactic(auto, using(crate::proofs::Items::item_came, crate::proofs::Items::items_over))]
     fn add_relocations(&mut self, section: RelocSectionReader<'a>) -> Result<()>
         ensures { FoldsTo (with_relocations (linked_parts self.old) section.entry)
             result (linked_parts self.new) }
@@ -113,6 +114,7 @@ impl<'a> Linked<'a> {
         Ok(())
     }
 
+    #[tactic(auto, using(crate::proofs::Items::item_came, crate::proofs::Items::items_over))]
     fn add_symbols(&mut self, symbols: SymbolInfoMap<'a>) -> Result<()>
         ensures { FoldsTo (with_symbols (linked_parts self.old) symbols.entry)
             result (linked_parts self.new) }
@@ -188,6 +190,7 @@ impl<'a> Linked<'a> {
     }
 }
 
+#[tactic(auto, using(crate::proofs::Folding::begun))]
 /// Returns the relocations of a module, in order, each with the symbol that it names and the bytes that it fills in.
 ///
 /// # Errors

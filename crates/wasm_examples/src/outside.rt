@@ -138,6 +138,7 @@ impl<'a> Outside<'a> {
         Ok(())
     }
 
+    #[tactic(auto, using(crate::proofs::Items::item_came, crate::proofs::Items::items_over))]
     fn add_exports(&mut self, section: ExportSectionReader<'a>) -> Result<(), Misfit>
         ensures { Comes
             (exported (outside_parts self.old) section.entry.count (place section.entry.reader))
@@ -183,6 +184,7 @@ impl<'a> Outside<'a> {
     }
 }
 
+#[tactic(auto, using(crate::proofs::Folding::begun))]
 /// Returns the imports and exports of a module.
 ///
 /// # Errors

@@ -32,7 +32,7 @@ impl<'a> Names<'a> {
         Ok(())
     }
 
-    #[tactic(auto, using(crate::proofs::Naming::is_set))]
+    #[tactic(auto, using(crate::proofs::Texts::is_set))]
     fn set(&mut self, naming: Naming<'a>)
         ensures { texts_of self.new.list
             ≡ with_name (texts_of self.old.list) (naming_parts naming.entry) }
@@ -43,6 +43,7 @@ impl<'a> Names<'a> {
         }
     }
 
+    #[tactic(auto, using(crate::proofs::Texts::naming_came, crate::proofs::Items::items_over))]
     fn set_all(&mut self, map: NameMap<'a>)
         ensures { texts_of self.new.list ≡ names_of_map (texts_of self.old.list) map.entry }
     {
@@ -121,6 +122,7 @@ impl<'a> Names<'a> {
     }
 }
 
+#[tactic(auto, using(crate::proofs::Folding::begun))]
 /// Returns the name of each function of a module, if it has one: first of the imported functions, then of its own.
 ///
 /// A name section names functions that come before it. If a function has two names, the later one counts. A name that is

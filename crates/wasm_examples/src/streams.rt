@@ -1,7 +1,7 @@
 // Walks over the parts of a stream.
-ghost use Rattle.std.specs.Prelude.{◌≡◌};
+ghost use Rattle.std.specs.Prelude.{◌≡◌, Ok};
 ghost use Rattle.wasm_parser.specs.ParseAnswer.{report_of};
-ghost use Rattle.wasm_examples.specs.Streams.{IsEndOf, IsStartOf, started_by};
+ghost use Rattle.wasm_examples.specs.Streams.{IsEndOf, IsStartOf, started};
 
 use wasm_base::Result;
 use wasm_parser::{Chunk, Parser, Payload};
@@ -31,24 +31,23 @@ pub fn end_of(bytes: &[u8]) -> Result<u64>
 }
 
 /// Returns the index in the start section of a module, if there is one, or the fault of the stream.
+#[tactic(auto, using(crate::proofs::Folding::begun))]
 pub fn start_of(bytes: &[u8]) -> Result<Option<u32>>
     ensures { IsStartOf bytes.now result }
 {
     let mut start = None;
     for payload in Parser::new(0).parse_all(bytes) {
-        if let Some(function) = start_in(payload?) {
-            start = Some(function);
-        }
+        start = start_after(start, payload?);
     }
     Ok(start)
 }
 
-// Returns the index in a start section.
-fn start_in(payload: Payload<'_>) -> Option<u32>
-    ensures { result ≡ started_by (report_of payload.entry) }
+// Returns the start function after a part of a module, by what is known before it.
+fn start_after(known: Option<u32>, payload: Payload<'_>) -> Option<u32>
+    ensures { started known (report_of payload.entry) ≡ Ok result }
 {
     match payload {
         Payload::StartSection { func, .. } => Some(func),
-        _ => None,
+        _ => known,
     }
 }

@@ -5,13 +5,12 @@ ghost use Rattle.wasm_base.specs.Features.{feature_bits};
 ghost use Rattle.wasm_base.specs.Owned.{out_of_memory};
 ghost use Rattle.wasm_feed.specs.Pieces.{joined};
 ghost use Rattle.wasm_grammar.specs.Reading.{Event};
-ghost use Rattle.wasm_examples.specs.Visits.{part, Tells, VisitsHeld, VisitsNext, VisitsStream};
+ghost use Rattle.wasm_examples.specs.Visits.{part, VisitsNext, VisitsStream};
 
 use std::alloc::Global;
 use wasm_base::{Result, WasmFeatures};
-use wasm_feed::{Ended, Feeder, Step};
+use wasm_feed::{Feeder, Step};
 use wasm_parser::Payload;
-use wasm_streams::Turn;
 
 /// A visitor, which receives the parts of a stream in order.
 pub trait Visitor {
@@ -26,39 +25,30 @@ pub trait Visitor {
         ensures memory { IfErr result (λ e. fault_at e ≡ out_of_memory) };
 }
 
-// Passes a part to the visitor, unless it is the end.
-fn tell<V: Visitor>(visitor: &mut V, bytes: &[u8], payload: Payload<'_>) -> Result<Turn>
-    ensures { Tells V.takes visitor.old bytes.now payload.entry result visitor.new }
-{
-    match payload {
-        Payload::End(_) => Ok(Turn::End(Ended::End)),
-        payload => {
-            visitor.visit(bytes, payload)?;
-            Ok(Turn::Advance)
-        }
-    }
+// What a step did.
+#[derive(Clone, Copy)]
+enum Done {
+    // It passed a part to the visitor.
+    Visited,
+    // It asked for more input.
+    Asked,
+    // It was the end of the stream.
+    Ended,
 }
 
-// Performs one step and passes its part to the visitor.
-fn visit_next<V: Visitor>(feeder: &mut Feeder, visitor: &mut V) -> Result<Turn>
+// Performs one step and passes its part to the visitor, unless it is the end.
+fn visit_next<V: Visitor>(feeder: &mut Feeder, visitor: &mut V) -> Result<Done>
     ensures { VisitsNext V.takes feeder.old visitor.old result feeder.new visitor.new }
 {
     match feeder.open().step()? {
-        Step::NeedMoreData(_) => Ok(Turn::Read),
-        Step::Parsed { bytes, payload } => tell(visitor, bytes, payload),
-    }
-}
-
-// Passes the buffered parts to the visitor. Returns whether the end is among them.
-fn visit_held<V: Visitor>(feeder: &mut Feeder, visitor: &mut V) -> Result<bool>
-    ensures { VisitsHeld V.takes feeder.old visitor.old result feeder.new visitor.new }
-{
-    'parts: loop {
-        match visit_next(feeder, visitor)? {
-            Turn::Advance => {}
-            Turn::Read => return Ok(false),
-            Turn::End(_) => return Ok(true),
-        }
+        Step::NeedMoreData(_) => Ok(Done::Asked),
+        Step::Parsed { bytes, payload } => match payload {
+            Payload::End(_) => Ok(Done::Ended),
+            payload => {
+                visitor.visit(bytes, payload)?;
+                Ok(Done::Visited)
+            }
+        },
     }
 }
 
@@ -86,15 +76,19 @@ pub fn visit_pieces<V: Visitor>(
         visitor.old result visitor.new }
 {
     let mut feeder = Feeder::new(alloc, 0, features);
+    let mut chunks = pieces.iter();
     let mut most = 0;
-    'pieces: for piece in pieces {
-        feeder.push(piece)?;
-        most = feeder.stored().max(most);
-        if visit_held(&mut feeder, visitor)? {
-            return Ok(most);
+    'steps: loop {
+        match visit_next(&mut feeder, visitor)? {
+            Done::Visited => {}
+            Done::Asked => match chunks.next() {
+                Some(chunk) => {
+                    feeder.push(chunk)?;
+                    most = feeder.stored().max(most);
+                }
+                None => feeder.finish(),
+            },
+            Done::Ended => return Ok(most),
         }
     }
-    feeder.finish();
-    visit_held(&mut feeder, visitor)?;
-    Ok(most)
 }

@@ -12,6 +12,7 @@ use wasm_base::{FromReader, FromReaderIn, Result, SectionLimited};
 use wasm_items::{ImportSection, ImportSectionReader, TypeRef};
 
 /// Returns the sum of the numbers of a section, or the first fault.
+#[tactic(auto, using(crate::proofs::Items::item_came, crate::proofs::Items::items_over))]
 pub fn total(numbers: SectionLimited<'_, u32>) -> Result<u64>
     // Proved: `total` adds up a section of numbers
     ensures { let sum = total_at numbers.entry.count (place numbers.entry.reader) in

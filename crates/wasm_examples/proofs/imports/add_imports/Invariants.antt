@@ -1,7 +1,4 @@
-use Rattle.std.proofs.Common.{◌≡◌}
-use Rattle.std.specs.Prelude.{string_bytes}
-use Rattle.wasm_examples.specs.Imported.{imports_of}
-use Rattle.wasm_examples.specs.ImportsText.{with_lines}
+use Rattle.wasm_examples.proofs.Common.{◌≡◌, string_bytes, imports_of, with_lines}
 use Rattle.wasm_examples.proofs.imports.add_imports.Given as goal
 
 abbrev pub invariant-loop-import : goal.invariant-loop-import

@@ -1,5 +1,4 @@
-use Rattle.std.specs.Prelude.{[], string_bytes}
-use Rattle.wasm_examples.specs.ImportsText.{with_part}
+use Rattle.wasm_examples.proofs.Common.{[], string_bytes, with_part}
 use Rattle.wasm_examples.proofs.Folding.{Came}
 use Rattle.wasm_examples.proofs.imports.imports_text.Given as goal
 

@@ -1,4 +1,5 @@
-use Rattle.wasm_examples.specs.Linking.{linked_parts, no_parts, linked}
+use Rattle.wasm_examples.proofs.Common.{linked_parts, linked}
+use Rattle.wasm_examples.specs.Linking.{no_parts}
 use Rattle.wasm_examples.proofs.Folding.{Came}
 use Rattle.wasm_examples.proofs.linking.linked_of.Given as goal
 

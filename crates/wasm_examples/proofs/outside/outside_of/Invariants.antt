@@ -1,4 +1,5 @@
-use Rattle.wasm_examples.specs.Outside.{outside_parts, no_parts, noted}
+use Rattle.wasm_examples.proofs.Common.{outside_parts, noted}
+use Rattle.wasm_examples.specs.Outside.{no_parts}
 use Rattle.wasm_examples.proofs.Folding.{Came}
 use Rattle.wasm_examples.proofs.outside.outside_of.Given as goal
 

@@ -1,5 +1,4 @@
-use Rattle.std.proofs.Common.{[]}
-use Rattle.wasm_examples.specs.Printing.{texts_of, names_after}
+use Rattle.wasm_examples.proofs.Common.{[], texts_of, names_after}
 use Rattle.wasm_examples.proofs.Folding.{Came}
 use Rattle.wasm_examples.proofs.printing.function_names.Given as goal
 

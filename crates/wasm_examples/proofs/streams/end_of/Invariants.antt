@@ -1,4 +1,4 @@
-use Rattle.std.proofs.Common.{length}
+use Rattle.wasm_examples.proofs.Common.{length}
 use Rattle.wasm_examples.proofs.Ending.{Passed}
 use Rattle.wasm_examples.proofs.streams.end_of.Given as goal
 

@@ -1,9 +1,10 @@
-use Rattle.wasm_examples.proofs.Starting.{Known}
+use Rattle.wasm_examples.proofs.Common.{None, started}
+use Rattle.wasm_examples.proofs.Folding.{Came}
 use Rattle.wasm_examples.proofs.streams.start_of.Given as goal
 
 abbrev pub invariant-loop-payload : goal.invariant-loop-payload
 invariant-loop-payload l = record {
   can : goal.iterator-loop-payload.can_next l.payload-iterator;
   finite : goal.iterator-loop-payload.is_finite l.payload-iterator;
-  known : Known l.yielded l.start;
+  came : Came started None l.fn.bytes l.payload-iterator l.start;
 }

@@ -1,5 +1,4 @@
-use Rattle.std.proofs.lemmas.Result.{err_from_is_err_and}
-use Rattle.wasm_parser.proofs.ForCallers.{gives, after_item, at_a_fault}
+use Rattle.wasm_examples.proofs.Common.{err_from_is_err_and, gives, after_item, at_a_fault}
 use Rattle.wasm_examples.proofs.walks.check.Goals as goal
 
 pub returns-in_err-item : goal.returns-in_err-item

@@ -1,6 +1,4 @@
-use Rattle.std.proofs.Common.{◌≡◌, false}
-use Rattle.wasm_base.specs.Window.{place}
-use Rattle.wasm_base.specs.Walks.{Walked}
+use Rattle.wasm_examples.proofs.Common.{◌≡◌, false, place, Walked}
 use Rattle.wasm_examples.proofs.walks.check.Given as goal
 
 abbrev pub invariant-loop-item : goal.invariant-loop-item

@@ -1,6 +1,4 @@
-use Rattle.std.proofs.lemmas.Result.{err_from_is_err_and}
-use Rattle.wasm_base.specs.Owned.{UnlessMemory}
-use Rattle.wasm_parser.proofs.ForCallers.{gives_owned, after_item, at_a_fault}
+use Rattle.wasm_examples.proofs.Common.{err_from_is_err_and, UnlessMemory, gives_owned, after_item, at_a_fault}
 use Rattle.wasm_examples.proofs.walks.check_in.Goals as goal
 
 pub returns-in_err-one : goal.returns-in_err-one

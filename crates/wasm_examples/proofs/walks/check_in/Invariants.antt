@@ -1,7 +1,4 @@
-use Rattle.std.proofs.Common.{◌≡◌, false}
-use Rattle.wasm_base.specs.Window.{place}
-use Rattle.wasm_base.specs.Owned.{UnlessMemory}
-use Rattle.wasm_base.specs.Walks.{Walked}
+use Rattle.wasm_examples.proofs.Common.{◌≡◌, false, place, UnlessMemory, Walked}
 use Rattle.wasm_examples.proofs.walks.check_in.Given as goal
 
 abbrev pub invariant-loop-one : goal.invariant-loop-one

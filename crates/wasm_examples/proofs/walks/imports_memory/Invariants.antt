@@ -1,5 +1,4 @@
-use Rattle.std.proofs.Common.{◌≡◌}
-use Rattle.wasm_examples.specs.Imported.{imports_of, memory_in}
+use Rattle.wasm_examples.proofs.Common.{◌≡◌, imports_of, memory_in}
 use Rattle.wasm_examples.proofs.walks.imports_memory.Given as goal
 
 abbrev pub invariant-loop-import : goal.invariant-loop-import

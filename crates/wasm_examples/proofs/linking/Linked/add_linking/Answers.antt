@@ -1,47 +1,47 @@
-use Rattle.std.proofs.Common.{inr}
-use Rattle.std.proofs.lemmas.Result.{err_from_is_err_and}
-use Rattle.wasm_base.specs.FaultAt.{fault_at}
-use Rattle.wasm_examples.specs.Linking.{linked_parts, with_linking}
-use Rattle.wasm_examples.proofs.Each.{subsections_begin, subsection_came, subsection_refused}
-use Rattle.wasm_examples.proofs.Each.{subsection_fault, subsections_over, unless_memory}
+use Rattle.wasm_examples.proofs.Common.{Ok, Err, ◌∙◌, ap, refl, inl, inr, err_from_is_err_and, place, linking_parts, after_each}
+use Rattle.wasm_examples.proofs.Common.{linked_parts}
+use Rattle.wasm_examples.specs.Linking.{with_subsection}
+use Rattle.wasm_examples.proofs.Parts.{parts_begin, part_came, parts_over}
 use Rattle.wasm_examples.proofs.linking.Linked.add_linking.Goals as goal
 
 pub loop-subsection-init : goal.loop-subsection-init
-loop-subsection-init c = record {
-  can = tt;
-  finite = tt;
-  left =
-      subsections_begin (linked_parts c.args.self.now) c.args.section c.into_iter-subsection-iterator.result
-      c.into_iter-subsection-iterator.ensures.into_iter_gives;
-}
+loop-subsection-init c = rw c.into_iter-subsection-iterator.ensures.into_iter_gives
+    (record { can = tt; finite = tt; parts = _; left = parts_begin (place c.args.section.subsections); so_far = refl })
 
 pub returns-in_err-subsection : goal.returns-in_err-subsection
 returns-in_err-subsection c =
-    let next = rw c.in_err-subsection.was at c.in-Some.ensures.steps in
     let p = err_from_is_err_and c.from_residual.result c.from_residual.ensures.1 in
-    rw (p.1, p.2) (inr (subsection_fault (with_linking (linked_parts c.args.self.now) c.args.section) (linked_parts c.loop-subsection.self)
-    c.loop-subsection.subsection-iterator c.next.new.self c.loop-subsection.invariant.left c.in_err-subsection.field-0.0 next))
+    let m = part_came linking_parts c.loop-subsection.invariant.left (Err c.in_err-subsection.field-0.0) c.in_err-subsection.was
+    c.in-Some.ensures.steps in
+    rw (p.1, p.2) (inr (c.loop-subsection.invariant.so_far
+    ∙ ap (after_each (λ f. f) with_subsection (linked_parts c.loop-subsection.self)) m.same))
 
 pub returns-in_err-add_subsection : goal.returns-in_err-add_subsection
 returns-in_err-add_subsection c =
-    let next = rw c.in_ok-subsection.was at c.in-Some.ensures.steps in
     let p = err_from_is_err_and c.from_residual-in_err-add_subsection.result c.from_residual-in_err-add_subsection.ensures.1 in
-    rw (p.1, p.2) (unless_memory (rw c.in_err-add_subsection.was at c.add_subsection.ensures)
-    (λ h. subsection_refused (with_linking (linked_parts c.args.self.now) c.args.section) (linked_parts c.loop-subsection.self)
-    c.loop-subsection.subsection-iterator c.next.new.self c.loop-subsection.invariant.left c.in_ok-subsection.field-0
-    (fault_at c.in_err-add_subsection.field-0.0) next h))
+    let m = part_came linking_parts c.loop-subsection.invariant.left (Ok c.in_ok-subsection.field-0) c.in_ok-subsection.was
+    c.in-Some.ensures.steps in
+    rw (p.1, p.2) (elim c.in_err-add_subsection.ensures [
+      | inl memory ↦ inl memory
+      | inr h ↦ inr (c.loop-subsection.invariant.so_far
+          ∙ (ap (after_each (λ f. f) with_subsection (linked_parts c.loop-subsection.self)) m.same ∙ rw h refl))
+    ])
 
 pub loop-subsection-preserved : goal.loop-subsection-preserved
 loop-subsection-preserved c =
-    let next = rw c.in_ok-subsection.was at c.in-Some.ensures.steps in
-    let added = rw c.in_ok-add_subsection.was at c.add_subsection.ensures in
+    let m = part_came linking_parts c.loop-subsection.invariant.left (Ok c.in_ok-subsection.field-0) c.in_ok-subsection.was
+    c.in-Some.ensures.steps in
     record {
       can = tt;
       finite = tt;
-      left = subsection_came (with_linking (linked_parts c.args.self.now) c.args.section) (linked_parts c.loop-subsection.self)
-          c.loop-subsection.subsection-iterator c.next.new.self c.loop-subsection.invariant.left c.in_ok-subsection.field-0 _ next added;
+      parts = m.later;
+      left = m.left;
+      so_far = c.loop-subsection.invariant.so_far
+          ∙ (ap (after_each (λ f. f) with_subsection (linked_parts c.loop-subsection.self)) m.same
+          ∙ rw c.in_ok-add_subsection.ensures refl);
     }
 
 pub returns : goal.returns
-returns c = subsections_over (with_linking (linked_parts c.args.self.now) c.args.section) (linked_parts c.loop-subsection.self)
-    c.loop-subsection.subsection-iterator c.next.new.self c.loop-subsection.invariant.left c.in-None.ensures.steps
+returns c = c.loop-subsection.invariant.so_far
+    ∙ ap (after_each (λ f. f) with_subsection (linked_parts c.loop-subsection.self))
+    (parts_over linking_parts c.loop-subsection.invariant.left c.in-None.ensures.steps)

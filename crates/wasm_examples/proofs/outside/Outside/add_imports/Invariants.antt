@@ -1,6 +1,4 @@
-use Rattle.std.proofs.Common.{◌≡◌}
-use Rattle.wasm_examples.specs.Imported.{imports_of}
-use Rattle.wasm_examples.specs.Outside.{outside_parts, imported}
+use Rattle.wasm_examples.proofs.Common.{◌≡◌, imports_of, outside_parts, imported}
 use Rattle.wasm_examples.proofs.outside.Outside.add_imports.Given as goal
 
 abbrev pub invariant-loop-import : goal.invariant-loop-import

@@ -1,6 +1,4 @@
-use Rattle.std.proofs.Common.{◌≡◌}
-use Rattle.wasm_examples.specs.Imported.{imports_of}
-use Rattle.wasm_examples.specs.Printing.{texts_of, add_imported}
+use Rattle.wasm_examples.proofs.Common.{◌≡◌, imports_of, texts_of, add_imported}
 use Rattle.wasm_examples.proofs.printing.Names.add_imports.Given as goal
 
 abbrev pub invariant-loop-import : goal.invariant-loop-import
