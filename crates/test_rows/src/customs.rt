@@ -9,7 +9,7 @@ use wasm_custom::{
 };
 use wasm_items::RecGroup;
 use wasm_output::Tree;
-use wasm_show::{Items, Show, show_list};
+use wasm_show::{Found, Items, Show, show_list};
 
 /// Writes the section or the list that this reader reads, or its fault. Returns whether there is such a reader.
 pub(crate) fn show_custom<O: Tree>(
@@ -87,9 +87,9 @@ fn show_all<I: Items, O: Tree>(mut items: I, out: &mut O) {
 }
 
 // Writes an item, or its fault.
-fn show_one<T: Show, O: Tree>(item: &Result<(u64, T)>, out: &mut O) {
+fn show_one<T: Show, O: Tree>(item: &Result<Found<T>>, out: &mut O) {
     match item {
-        Ok((offset, item)) => {
+        Ok((offset, _, item)) => {
             out.item(2, *offset);
             item.show(2, out);
         }

@@ -2,7 +2,6 @@
 use Rattle.std.proofs.Common.{◌≡◌, ◌∙◌, ◌+◌, ◌<◌, ℕ, true, false, List, Ok, Err, Vec, Global, Bor, refl, [], ◌∷◌, ◌++◌, ap, sym, subst₂}
 use Rattle.std.proofs.Common.{map, take, length, get_or}
 use Rattle.std.proofs.lemmas.List.{map-append, map_more, take-map}
-use Rattle.wasm_io.specs.declared.devices.sink.Sink.{Ghosts as SinkOf}
 use Rattle.wasm_io.specs.declared.devices.source.Source.{Ghosts as SourceOf}
 use Rattle.wasm_commands.specs.RewriteCommands.{AreAdditions, CannotLoad, EachInTurn, IsLoaded, TakesWords, is_asked_again, is_input}
 use Rattle.wasm_commands.specs.RewriteCommands.{no_addition, no_data_text, parts_of}
@@ -43,13 +42,13 @@ each_next_seen R f g xs i x ys new y less is all one e =
     each_next R f xs i x (map g ys) (map g new) (g y) less is all one (ap (map g) e ∙ map-append g ys (y ∷ []))
 
 -- the file of the next section could not be read
-pub cannot_load : {S I O : Type 0} (calls : SystemOf S I O) (sources : SourceOf I) (sinks : SinkOf O)
+pub cannot_load : {S I O : Type 0} (calls : SystemOf S I O) (sources : SourceOf I)
     (additions : List Addition) (i : ℕ) (x : Addition) (loaded : List (List ℕ × List ℕ)) (status : ℕ) (old new : Run S)
     → i < length additions → x ≡ get_or additions i x
-    → EachInTurn (IsLoaded calls sources sinks old.system) (map parts_of (take i additions)) loaded
-    → Holds calls sources sinks x.file.now (Err status) old new
-    → CannotLoad calls sources sinks (map parts_of additions) status old new
-cannot_load calls sources sinks additions i x loaded status old new less is loads cannot = record {
+    → EachInTurn (IsLoaded calls sources old.system) (map parts_of (take i additions)) loaded
+    → Holds calls sources x.file.now (Err status) old new
+    → CannotLoad calls sources (map parts_of additions) status old new
+cannot_load calls sources additions i x loaded status old new less is loads cannot = record {
   first = map parts_of (take i additions);
   next = parts_of x;
   count = i + 1;

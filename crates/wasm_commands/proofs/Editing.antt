@@ -1,7 +1,7 @@
 -- Streams that are written with edits, devices that are left alone, and what a status says.
-use Rattle.std.proofs.Common.{◌≡◌, inl, inr, Vec, Global, ℕ, Bool, true, false, List, ◌++◌, Option, Some, None, Result, Ok, Err, ap}
+use Rattle.std.proofs.Common.{◌≡◌, Vec, Global, ℕ, Bool, true, false, List, ◌++◌, Option, Some, None, Result, Ok, Err, ap}
 use Rattle.std.proofs.Common.{refl, subst, sym, is_ok}
-use Rattle.std.proofs.Common.{length, take, take_all, le_refl, All, IsTrue, ◌↔◌, [], ◌∷◌}
+use Rattle.std.proofs.Common.{length, take, take_all, le_refl, All, IsTrue, ◌↔◌}
 use Rattle.std.specs.Io.KnownBytes.{Appends, Consumes, Keeps}
 use Rattle.std.proofs.KnownBytes.{Appends-kept, Appends-trans}
 use Rattle.wasm_base.specs.FaultAt.{fault_at}
@@ -15,7 +15,6 @@ use Rattle.wasm_grammar.specs.Accepted.{IsAccepted}
 use Rattle.wasm_io.specs.Calls.{Device}
 use Rattle.wasm_io.specs.declared.devices.ListError.{ListError}
 use Rattle.wasm_io.specs.declared.devices.ListError.TheVariants.{Input, Output, Memory}
-use Rattle.wasm_io.specs.declared.devices.sink.Sink.{Ghosts as SinkOf}
 use Rattle.wasm_io.specs.declared.devices.source.Source.{Ghosts as SourceOf}
 use Rattle.wasm_streams.specs.declared.turns.Ended.{Ended}
 use Rattle.wasm_streams.specs.declared.turns.Ended.TheVariants.{End, Fault}
@@ -76,22 +75,22 @@ all_twice edits first second output t = by_first t.checked t.goes_on
     by_first (Err why) g = absurd (let is = g.2 in cc)
 
 -- a stream that was written to its end, by what is held of it
-module _ {S I O : Type 0} (calls : SystemOf S I O) (sources : SourceOf I) (sinks : SinkOf O) (system : S) (edits : List Edit)
+module _ {S I O : Type 0} (calls : SystemOf S I O) (sources : SourceOf I) (system : S) (edits : List Edit)
     (original : Original) (output : Device) where
   by_checked : (is_checked : Bool) → original.held ≡ None
-      → EditsFile calls sources sinks system edits original.name.now is_checked output (Ok End)
-      → IsWritten calls sources sinks system edits original output
+      → EditsFile calls sources system edits original.name.now is_checked output (Ok End)
+      → IsWritten calls sources system edits original output
   by_checked true is e =
-      let all = all_edited edits (input_device calls sources sinks e.opened e.rest) output e.writes in
+      let all = all_edited edits (input_device sources e.opened e.rest) output e.writes in
       record {
         stream = all.0;
         given = rw is (record { opened = e.opened; rest = e.rest; opens = e.opens; gave = all.1 });
         written = all.2;
       }
   by_checked false is e =
-      let again = all_twice edits (input_device calls sources sinks e.first e.first_rest)
-      (input_device calls sources sinks e.second e.second_rest) output e.writes in
-      let all = all_edited edits (input_device calls sources sinks e.second e.second_rest) output again in
+      let again = all_twice edits (input_device sources e.first e.first_rest)
+      (input_device sources e.second e.second_rest) output e.writes in
+      let all = all_edited edits (input_device sources e.second e.second_rest) output again in
       record {
         stream = all.0;
         given = rw is (record { opened = e.second; rest = e.second_rest; opens = e.reopens; gave = all.1 });
@@ -99,8 +98,8 @@ module _ {S I O : Type 0} (calls : SystemOf S I O) (sources : SourceOf I) (sinks
       }
 
   by_held : (held : Option (Vec ℕ Global)) → original.held ≡ held
-      → EditsBy calls sources sinks system edits original held output (Ok End)
-      → IsWritten calls sources sinks system edits original output
+      → EditsBy calls sources system edits original held output (Ok End)
+      → IsWritten calls sources system edits original output
   by_held None is e = by_checked original.is_checked is e
   by_held (Some held) is e =
       let w = e.writes in
@@ -111,8 +110,8 @@ module _ {S I O : Type 0} (calls : SystemOf S I O) (sources : SourceOf I) (sinks
       }
 
   pub whole_written : (edited : Result (Result Ended ListError) Cause)
-      → EditsOriginal calls sources sinks system edits original output edited → is_whole edited ≡ true
-      → IsWritten calls sources sinks system edits original output
+      → EditsOriginal calls sources system edits original output edited → is_whole edited ≡ true
+      → IsWritten calls sources system edits original output
   whole_written (Ok (Ok End)) e is = by_held original.held refl e
   whole_written (Ok (Ok (Fault f))) e is = absurd cc
   whole_written (Ok (Err why)) e is = absurd cc

@@ -1,16 +1,14 @@
 -- How far a search for the first custom section with a name has come, and what is written in its place.
 use Rattle.std.proofs.Common.{◌≡◌, ℕ, ◌-◌, ◌<◌, ◌^◌, Bool, true, false, List, [], ◌∷◌, ◌++◌, length, take, drop, Some, None}
-use Rattle.std.proofs.Common.{Option, Ok, Err, refl, sym, ap, ◌∙◌, arith, subst₂, append-nil, append_assoc, length-append}
+use Rattle.std.proofs.Common.{Option, Ok, refl, sym, ap, ◌∙◌, arith, subst₂, append-nil, append_assoc, length-append}
 use Rattle.std.proofs.lemmas.Grind.{flat_map-append}
 use Rattle.std.proofs.Math.Seq.{take-append_seam}
 use Rattle.std.proofs.lemmas.Bool.Decides.{nat_tests}
-use Rattle.wasm_base.specs.FaultAt.{fault_at}
 use Rattle.wasm_base.specs.Features.{all_features}
 use Rattle.wasm_base.specs.declared.error.Error.{Error}
 use Rattle.wasm_edits.specs.Stripped.{EndsWithFault}
 use Rattle.wasm_frames.proofs.ForCallers.{answers_go_along}
 use Rattle.wasm_frames.specs.Along.{Along, Came}
-use Rattle.wasm_frames.specs.Answer.{is_end}
 use Rattle.wasm_frames.specs.ParserState.{ParserState, initial_state}
 use Rattle.wasm_grammar.specs.EventRanges.{consumed_by}
 use Rattle.wasm_grammar.specs.Reading.{Event, Report}

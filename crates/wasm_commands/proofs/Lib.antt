@@ -10,6 +10,5 @@ pub mod Parsing
 pub mod FirstWords
 pub mod Running
 pub mod Setting
-pub mod Showing
 pub mod Steps
 pub mod Turns

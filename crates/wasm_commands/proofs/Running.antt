@@ -1,6 +1,6 @@
 -- A dump, after which the output is flushed.
-use Rattle.std.proofs.Common.{◌≡◌, ◌∷◌, ◌++◌, List, ℕ, true, false, arith, length, take, take_all, le_refl, Bool, Option, Some, None}
-use Rattle.std.proofs.Common.{Result, Ok, Err, OnErr, ap, subst, subst₂, sym}
+use Rattle.std.proofs.Common.{◌≡◌, ◌∷◌, ◌++◌, List, ℕ, true, false, arith, Bool, Option, Some, None}
+use Rattle.std.proofs.Common.{Result, Ok, Err, ap, subst₂, sym}
 use Rattle.std.specs.Io.KnownBytes.{Appends, Keeps}
 use Rattle.std.proofs.KnownBytes.{Appends-kept}
 use Rattle.wasm_io.specs.Calls.{from_to}
@@ -11,7 +11,6 @@ use Rattle.wasm_output.specs.Numbers.{Number}
 use Rattle.wasm_dumper.specs.Dump.{WritesWhole, WritesSome, Writes, Dumps}
 use Rattle.wasm_dumper.specs.declared.events.Only.{Only}
 use Rattle.wasm_output.specs.declared.tree.Style.{Style}
-use Rattle.wasm_io.specs.declared.devices.Failed.{Failed}
 use Rattle.wasm_commands.specs.Colors.{marked, seen, without_colors}
 
 -- what was written to one device is seen on another
@@ -43,16 +42,6 @@ module _ (style : Style) (a b c d : Option (List ℕ)) (sees : (text : List ℕ)
     counts = dumps.counts;
     writes = writes_seen how dumps.outline dumps.numbers dumps.bytes dumps.writes;
   }
-
--- all of a text was written, and then the output failed to hand it on
-pub not_forwarded : (r : Result (Unit {0}) Failed) (a b c : Option (List ℕ)) (text : List ℕ) → Appends a b text → Keeps b c
-    → OnErr r ((n : ℕ) × Appends a c (take n text))
-not_forwarded (Ok done) a b c text w k = tt
-not_forwarded (Err e) a b c text w k = (
-  length text,
-  subst (Appends a c) (sym (take_all (length text) text (le_refl (length text))))
-      (Appends-kept a b c text w k),
-)
 
 -- what is kept is seen as it was
 seen_kept : (colors : Bool) (a b : Option (List ℕ)) → Keeps a b → Keeps (seen colors a) (seen colors b)

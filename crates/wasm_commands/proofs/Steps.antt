@@ -1,9 +1,7 @@
 -- Steps of a run.
-use Rattle.std.proofs.Common.{◌≡◌, ◌∙◌, ℕ, Bool, Option, List, Result, Ok, Err, IfOk, ap, refl, subst, sym}
+use Rattle.std.proofs.Common.{◌≡◌, ℕ, List, Result, Ok, Err, IfOk, ap, refl, subst}
 use Rattle.std.specs.declared.alloc.AllocError.{AllocError}
-use Rattle.wasm_commands.specs.Runs.{Allocates, IsSound, Run, StopsAtFault, run_of}
-use Rattle.wasm_commands.specs.Rewrites.{OnlyWrites}
-use Rattle.wasm_io.specs.declared.devices.sink.WriteSink.{WriteSink}
+use Rattle.wasm_commands.specs.Runs.{Allocates, IsSound, Makes, Run, StopsAtFault}
 use Rattle.wasm_base.specs.declared.error.Error.{Error}
 
 -- what was allocated, and that nothing else was done
@@ -11,6 +9,12 @@ pub granted : {S A : Type 0} (P : A → Type 0) (made : Result A AllocError) (a 
     → Allocates made (Ok a) old new → IfOk made P → (new ≡ old) × P a
 granted P (Ok b) a old new s p = (s.1, subst P (let is = s.0 in cc) p)
 granted P (Err e) a old new s p = absurd (let is = s.answers in cc)
+
+-- the same as one step
+pub makes : {S A : Type 0} (has : A → Type 0) (made : Result A AllocError) (result : Result A ℕ) (old new : Run S)
+    → Allocates made result old new → IfOk made has → Makes has result old new
+makes has (Ok a) result old new s p = rw s.0 (p, s.1)
+makes has (Err e) result old new s p = rw s.answers (record { answers = refl; tells = s.tells })
 
 -- what was read of a file without a fault, and its fault
 module _ {S A : Type 0} (name : List ℕ) (old new : Run S) where
@@ -22,13 +26,3 @@ module _ {S A : Type 0} (name : List ℕ) (old new : Run S) where
       → (e : Error) × (read ≡ Err e) × StopsAtFault {A = B} name e (Err status) old new
   fault_is (Ok b) status s = absurd (let is = s.0 in cc)
   fault_is (Err e) status s = (e, refl, record { answers = ap Err (let is = s.answers in cc); tells = s.tells })
-
--- a run that was taken apart, and put together with another output
-pub only_written : {S W E : Type 0} (contents : W → Option (List ℕ)) (taken : E → Option (List ℕ)) (failed : E → Bool) (system : S)
-    (output later : WriteSink W) (errors : E) (old middle new : Run S) → middle ≡ old
-    → middle ≡ run_of contents taken failed system output errors → new ≡ run_of contents taken failed system later errors
-    → OnlyWrites old new
-only_written contents taken failed system output later errors old middle new same apart together = record {
-  system = ap (λ (r : Run _). r.system) together ∙ (sym (ap (λ (r : Run _). r.system) apart) ∙ ap (λ (r : Run _). r.system) same);
-  said = ap (λ (r : Run _). r.said) together ∙ (sym (ap (λ (r : Run _). r.said) apart) ∙ ap (λ (r : Run _). r.said) same);
-}

@@ -1,22 +1,24 @@
 -- What the commands of the program do with files and devices.
-use Rattle.std.specs.Prelude.{◌≡◌, ◌⊎◌, ℕ, Bool, true, false, List, [], ◌∷◌, codes, map, string_bytes, Option, Some}
+use Rattle.std.specs.Prelude.{◌≡◌, ℕ, Bool, true, false, List, [], ◌∷◌, codes, map, string_bytes, Option, Some}
 use Rattle.std.specs.Prelude.{None}
 use Rattle.std.specs.Prelude.{Result, Ok, Err}
 use Rattle.std.specs.declared.io.Error.{Error}
-use Rattle.wasm_commands.specs.ArgumentLists.{Read, Wrong, arguments_of, has_option, values_in}
-use Rattle.wasm_commands.specs.Checks.{ChecksFiles}
+use Rattle.wasm_commands.specs.ArgumentLists.{Read, Wrong, arguments_of, has_option, operands_in, values_in}
+use Rattle.wasm_commands.specs.Checks.{ChecksFile}
 use Rattle.wasm_commands.specs.Formats.{format_asked}
 use Rattle.wasm_commands.specs.Messages.{about_word, complaint_text, no_command_text, unknown_command_text}
 use Rattle.wasm_commands.specs.Options.{verb_named}
 use Rattle.wasm_commands.specs.Refusals.{asks_for_help, asks_for_version, unknown_text, wrong_text}
 use Rattle.wasm_commands.specs.RewriteCommands.{Adds, Extracts, SetsProducers, Strips}
 use Rattle.wasm_commands.specs.Rewrites.{WritesOut}
-use Rattle.wasm_commands.specs.Runs.{Allots, Run, RunsOut, Stops, Then, errors_of, output_of}
-use Rattle.wasm_commands.specs.Shows.{ShowsIn}
-use Rattle.wasm_commands.specs.Systems.{FilesOf, IsForwarded}
+use Rattle.wasm_commands.specs.Runs.{Allots, InTurn, Run, RunsOut, Stops, Then, named_files, status_in}
+use Rattle.wasm_commands.specs.Shows.{IsAsked, ShowsFile}
+use Rattle.wasm_commands.specs.declared.dump.Plan.{Plan}
 use Rattle.wasm_commands.specs.declared.dump.format.Format.{Format}
+use Rattle.wasm_commands.specs.declared.files.Task.{Task}
+use Rattle.wasm_commands.specs.declared.files.Task.TheVariants.{Show, Check}
 use Rattle.wasm_commands.specs.declared.messages.Complaint.TheVariants as complaint
-use Rattle.wasm_commands.specs.declared.options.Flag.TheVariants.{Help, Version}
+use Rattle.wasm_commands.specs.declared.options.Flag.TheVariants.{Help, Quiet, Version}
 use Rattle.wasm_commands.specs.declared.options.Flag.TheVariants as option
 use Rattle.wasm_commands.specs.declared.options.Verb.{Verb}
 use Rattle.wasm_commands.specs.declared.options.Verb.TheVariants as verb
@@ -24,14 +26,8 @@ use Rattle.wasm_commands.specs.declared.system.System.{Ghosts as SystemOf}
 use Rattle.wasm_console.specs.Arguments.{IsGiven}
 use Rattle.wasm_console.specs.declared.arguments.Given.{Given}
 use Rattle.wasm_console.specs.declared.arguments.Given.TheVariants.{Words, NotUtf8, Nothing}
-use Rattle.wasm_io.specs.Calls.{Device}
 use Rattle.wasm_io.specs.declared.devices.sink.Sink.{Ghosts as SinkOf}
 use Rattle.wasm_io.specs.declared.devices.source.Source.{Ghosts as SourceOf}
-
--- the exit status of a command: 0 unless it stopped
-abbrev pub status_in : Result (Unit {0}) ℕ → ℕ
-status_in (Ok done) = 0
-status_in (Err status) = status
 
 -- | an exit status that says how a run ended
 -- The step was done, and this is its status.
@@ -39,15 +35,6 @@ abbrev pub Answers : {S : Type 0} → (step : Result (Unit {0}) ℕ → (old new
     → (old new : Run S) → Type 0
 Answers step status old new =
     (result : Result (Unit {0}) ℕ) × (status ≡ status_in result) × step result old new
-
--- | a command that reads files and shows what they have: no file is changed, and what was written was forwarded if the
---   status is 0 or 1
--- The files were used like this, and none was changed.
-pub record Reads {S : Type 0} (uses : (output errors : Device) (status : ℕ) → Type 0) (result : Result (Unit {0}) ℕ)
-    (old new : Run S) : Type 0 where
-  pub does : uses (output_of old new) (errors_of old new) (status_in result)
-  pub forwards : IsForwarded (status_in result) new.forwarded
-  pub system : new.system ≡ old.system
 
 -- what is said of `--output` without `--set`
 abbrev pub set_is_missing : List ℕ
@@ -79,11 +66,28 @@ abbrev pub RunsOther : {S : Type 0} → (word : List ℕ) (more : List (List ℕ
     → Type 0
 RunsOther word more = RunsAsked (asks_for_help word) (asks_for_version word) word more
 
-module _ {S I O : Type 0} (calls : SystemOf S I O) (sources : SourceOf I) (sinks : SinkOf O) where
+module _ {S I O : Type 0} (calls : SystemOf S I O) (sources : SourceOf I) where
+  -- | what is done with each file that is read: it is shown, or checked
+  -- A file was shown, or checked.
+  abbrev pub DoesTask : Task → (name : List ℕ) → Result (Unit {0}) ℕ → (old new : Run S) → Type 0
+  DoesTask (Show plan) name = ShowsFile calls sources plan name
+  DoesTask (Check is_quiet) name = ChecksFile calls sources is_quiet name
+
+  -- The files that operands name were used in turn, or standard input if there are none.
+  abbrev pub UsesFiles : Task → (operands : List (List ℕ)) → Result (Unit {0}) ℕ → (old new : Run S) → Type 0
+  UsesFiles task operands result old new =
+      InTurn (DoesTask task) (named_files operands) (status_in result) old new
+
+  -- The files were shown as the arguments ask for.
+  pub record ShowsIn (verb : Verb) (reads : List Read) (format : Format) (result : Result (Unit {0}) ℕ)
+      (old new : Run S) : Type 0 where
+    pub plan : Plan
+    pub asked : IsAsked verb reads format plan
+    pub shows : UsesFiles (Show plan) (operands_in reads) result old new
+
   -- Files were shown in the format that is asked for, or what is wrong with the options was said.
   abbrev pub ShowsAsked : Verb → List Read → Result Format (List ℕ) → Result (Unit {0}) ℕ → (old new : Run S) → Type 0
-  ShowsAsked verb reads (Ok format) = Then Allots (λ (allotted : Unit {0}) result old new.
-      Reads (ShowsIn (FilesOf calls sources old.system) verb reads format) result old new)
+  ShowsAsked verb reads (Ok format) = Then Allots (λ (allotted : Unit {0}). ShowsIn verb reads format)
   ShowsAsked verb reads (Err text) = Stops 2 text
 
   -- | what `list` and `dump` do with the files that their arguments name, and `producers` that sets nothing
@@ -94,17 +98,17 @@ module _ {S I O : Type 0} (calls : SystemOf S I O) (sources : SourceOf I) (sinks
 
   -- | what `check` does with the files that its arguments name
   abbrev pub Checks : List Read → Result (Unit {0}) ℕ → (old new : Run S) → Type 0
-  Checks reads = Then Allots (λ (allotted : Unit {0}) result old new.
-      Reads (ChecksFiles (FilesOf calls sources old.system) reads) result old new)
+  Checks reads = Then Allots (λ (allotted : Unit {0}). UsesFiles (Check (has_option Quiet reads)) (operands_in reads))
 
   -- what `producers` without `--set` does: it shows the section, and refuses `--output`
   abbrev pub ShowsProducers : (has_output : Bool) → List Read → Result (Unit {0}) ℕ → (old new : Run S) → Type 0
   ShowsProducers true reads = Stops 2 set_is_missing
   ShowsProducers false reads = Shows verb.Producers reads
 
+module _ {S I O : Type 0} (calls : SystemOf S I O) (sources : SourceOf I) (sinks : SinkOf O) where
   -- what `producers` does, by the values of `--set`
   abbrev pub ProducersBy : (settings : List (List ℕ)) → List Read → Result (Unit {0}) ℕ → (old new : Run S) → Type 0
-  ProducersBy [] reads = ShowsProducers (has_option option.Output reads) reads
+  ProducersBy [] reads = ShowsProducers calls sources (has_option option.Output reads) reads
   ProducersBy (word ∷ words) reads = SetsProducers calls sources sinks reads
 
   -- | the command `producers`: it shows the section, or sets it [`ProducersBy`]
@@ -113,9 +117,9 @@ module _ {S I O : Type 0} (calls : SystemOf S I O) (sources : SourceOf I) (sinks
 
   -- What a command does with the files that its arguments name.
   abbrev pub RunsCommand : Verb → List Read → Result (Unit {0}) ℕ → (old new : Run S) → Type 0
-  RunsCommand verb.Check reads = Checks reads
-  RunsCommand verb.List reads = Shows verb.List reads
-  RunsCommand verb.Dump reads = Shows verb.Dump reads
+  RunsCommand verb.Check reads = Checks calls sources reads
+  RunsCommand verb.List reads = Shows calls sources verb.List reads
+  RunsCommand verb.Dump reads = Shows calls sources verb.Dump reads
   RunsCommand verb.Strip reads = Strips calls sources sinks reads
   RunsCommand verb.Extract reads = Extracts calls sources sinks reads
   RunsCommand verb.Producers reads = Produces reads

@@ -52,6 +52,10 @@ abbrev pub excluded : Verb → (option : List ℕ) → List ℕ
 excluded verb option = command_text verb ++ (codes ": options '" ++ (codes "--json"
     ++ (codes "' and '" ++ (option ++ codes "' exclude each other\n"))))
 
+-- the value of the last `--color`
+abbrev pub color_in : List Read → Option (Option (List ℕ))
+color_in reads = last_value option.Color None reads
+
 -- a format, unless JSON is asked for with what it has not: colors, rows of bytes, hexadecimal numbers
 abbrev pub unless_excluded : Verb → Format → (has_bytes : Bool) → Result Format (List ℕ)
 unless_excluded verb format has_bytes =
@@ -74,4 +78,4 @@ format_with verb reads (Ok colors) = unless_excluded verb (record {
 -- the format that options ask for, or what is wrong with them
 abbrev pub format_asked : Verb → List Read → (is_terminal : Bool) → Result Format (List ℕ)
 format_asked verb reads is_terminal =
-    format_with verb reads (colors_asked verb (last_value option.Color None reads) is_terminal)
+    format_with verb reads (colors_asked verb (color_in reads) is_terminal)

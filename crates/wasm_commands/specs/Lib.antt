@@ -17,4 +17,3 @@ pub mod RewriteCommands
 pub mod Rewrites
 pub mod Runs
 pub mod Shows
-pub mod Systems

@@ -1,20 +1,18 @@
 -- What the program says on standard error.
-use Rattle.std.specs.Prelude.{◌≡◌, ℕ, Bool, true, false, ◌&&◌, ◌||◌, List, [], ◌∷◌, ◌++◌, codes, bytes_eq, nat_le}
-use Rattle.std.specs.Prelude.{Option, Some, None, Result, Ok, Err, is_some}
+use Rattle.std.specs.Prelude.{ℕ, Bool, true, false, ◌&&◌, ◌||◌, List, [], ◌∷◌, ◌++◌, codes, bytes_eq, nat_le}
+use Rattle.std.specs.Prelude.{Option, Some, None, is_some}
 use Rattle.std.specs.Prelude.{if◌then◌else◌}
 use Rattle.std.specs.declared.io.ErrorKind.TheVariants.{Other}
-use Rattle.wasm_base.specs.FaultAt.{FaultAt, fault_at}
+use Rattle.wasm_base.specs.FaultAt.{FaultAt}
 use Rattle.wasm_base.specs.Message.{message_of, number_text}
-use Rattle.wasm_base.specs.declared.error.Error.{Error}
 use Rattle.wasm_grammar.specs.Ids.{id_named}
-use Rattle.wasm_io.specs.Calls.{Device}
+use Rattle.wasm_io.specs.Calls.{device_of}
 use Rattle.wasm_io.specs.Offsets.{offset_text}
 use Rattle.wasm_io.specs.declared.digits.Base.TheVariants.{Hexadecimal}
 use Rattle.wasm_io.specs.Messages.{Says}
+use Rattle.wasm_io.specs.declared.devices.sink.Sink.{Ghosts as SinkOf}
 use Rattle.wasm_io.specs.declared.devices.ListError.{ListError}
 use Rattle.wasm_io.specs.declared.devices.ListError.TheVariants.{Input, Output, Memory}
-use Rattle.wasm_streams.specs.declared.turns.Ended.{Ended}
-use Rattle.wasm_console.specs.Devices.{IsUntouched}
 use Rattle.wasm_commands.specs.Reasons.{reason_of, reason_of_kind}
 use Rattle.wasm_commands.specs.declared.arguments.Refusal.{Refusal}
 use Rattle.wasm_commands.specs.declared.arguments.Refusal.TheVariants.{UnknownOption, NoValue, UnwantedValue}
@@ -24,6 +22,10 @@ use Rattle.wasm_commands.specs.declared.messages.Complaint.TheVariants as compla
 use Rattle.wasm_commands.specs.declared.options.Verb.{Verb}
 use Rattle.wasm_commands.specs.declared.options.Verb.TheVariants as verb
 use Rattle.wasm_commands.specs.declared.reasons.Cause.{Cause}
+
+-- This was said on a device.
+abbrev pub SaysTo : {E : Type 0} → SinkOf E → (old new : E) (text : List ℕ) → Type 0
+SaysTo sinks old new text = Says (device_of sinks.taken sinks.has_failed old new) text
 
 -- the name of an input in messages
 abbrev pub name_shown : List ℕ → List ℕ
@@ -55,16 +57,6 @@ fault_line name offset message after = codes "pulleynavy: " ++ (name ++ (codes "
 abbrev pub fault_text : (name : List ℕ) → FaultAt → List ℕ
 fault_text name f =
     fault_line (name_shown name) (offset_text Hexadecimal f.offset) (message_of f.fault) (number_text f.number)
-
--- The file stops at this fault, and that was said.
-pub record StopsAt (name : List ℕ) (e : Error) (errors : Device) (status : ℕ) : Type 0 where
-  pub answers : status ≡ 1
-  pub says : Says errors (fault_text name (fault_at e))
-
--- what is said of a run over a stream: nothing, or why it failed
-abbrev pub Reports : (name : List ℕ) → Result Ended ListError → Causes → (errors : Device) → Type 0
-Reports name (Ok how) causes errors = IsUntouched errors
-Reports name (Err why) causes errors = Says errors (failure_text name why causes)
 
 abbrev pub command_text : Verb → List ℕ
 command_text verb.List = codes "pulleynavy list"

@@ -1,6 +1,6 @@
 -- How the code reads arguments.
 use Rattle.std.specs.Prelude.{◌≡◌, ℕ, ◌<◌, Bool, List, length, map, nat_lt, string_bytes, option_map, Option}
-use Rattle.std.specs.Prelude.{Some, None, Result, Ok, Err, if◌then◌else◌}
+use Rattle.std.specs.Prelude.{Some, None, Result, Ok, Err, String, Vec, if◌then◌else◌}
 use Rattle.std.specs.List.{after_first, before_first, position_or_len}
 use Rattle.std.specs.Borrow.{Bor}
 use Rattle.wasm_commands.specs.ArgumentLists.{Read, Wrong, option, operand, unknown_option, no_value, unwanted_value}
@@ -30,6 +30,13 @@ wrong_of (refusal.UnwantedValue word) = unwanted_value word.now
 
 abbrev pub texts : List (Bor (List ℕ)) → List (List ℕ)
 texts words = map (λ word. word.now) words
+
+abbrev pub strings : {A : Type 0} → List (String A) → List (List ℕ)
+strings words = map string_bytes words
+
+-- These are the texts.
+abbrev pub AreTexts : {A : Type 0} → List (List ℕ) → Vec (Bor (List ℕ)) A → Type 0
+AreTexts words made = texts made.items ≡ words
 
 -- The parts of an option with a value, if it has an `=`.
 pub record IsSplit (parts : Parts) (word : List ℕ) : Type 0 where

@@ -27,17 +27,18 @@ use Rattle.wasm_commands.specs.Finding.{FindsSection}
 use Rattle.wasm_commands.specs.FirstNamed.{FindsFirst, ReplacesFirst}
 use Rattle.wasm_commands.specs.Messages.{about_word, command_text, input_twice_text, missing_text, wrong_value_text}
 use Rattle.wasm_commands.specs.Parsing.{texts}
-use Rattle.wasm_commands.specs.Rewrites.{Changes, EditsTo, EndsRun, Finds, Gave, Holds, OnlyWrites, Opens, WritesTo}
-use Rattle.wasm_commands.specs.Rewrites.{target_in}
+use Rattle.wasm_commands.specs.Rewrites.{Changes, EditsTo, EndsRun, Finds, Gave, Holds, Opens, WritesTo}
+use Rattle.wasm_commands.specs.Rewrites.{Route, route_from, target_in}
 use Rattle.wasm_commands.specs.Runs.{Allots, IsSound, Run, RunsOut, Stops, StopsAtFault, Then}
 use Rattle.wasm_commands.specs.declared.add.Addition.{Addition}
 use Rattle.wasm_commands.specs.declared.add.Loaded.{Loaded}
 use Rattle.wasm_commands.specs.declared.add.Operands.{Operands}
+use Rattle.wasm_commands.specs.declared.extract.Wanted.{Wanted}
 use Rattle.wasm_commands.specs.declared.options.Flag.TheVariants as option
 use Rattle.wasm_commands.specs.declared.options.Verb.{Verb}
 use Rattle.wasm_commands.specs.declared.options.Verb.TheVariants as verb
 use Rattle.wasm_commands.specs.declared.rewriting.Original.{Original}
-use Rattle.wasm_commands.specs.declared.strip.Asked.{Asked}
+use Rattle.wasm_commands.specs.declared.producers.Setting.{Setting}
 use Rattle.wasm_commands.specs.declared.system.System.{Ghosts as SystemOf}
 
 -- an argument after those that a command takes
@@ -51,25 +52,24 @@ too_large_text verb name = command_text verb ++ (codes ": section '" ++ (name ++
 abbrev pub IsFile : {S : Type 0} → (name : List ℕ) → Result (Bor (List ℕ)) ℕ → (old new : Run S) → Type 0
 IsFile name result old new = (file : Bor (List ℕ)) × (result ≡ Ok file) × (file.now ≡ name) × (new ≡ old)
 
--- | the operand of a command that takes at most one file
 -- It takes at most one file, and without one standard input.
+abbrev pub TakesOnly : {S : Type 0} → Verb → (operands : List (List ℕ)) → Result (Bor (List ℕ)) ℕ → (old new : Run S)
+    → Type 0
+TakesOnly verb [] = IsFile (codes "-")
+TakesOnly verb (name ∷ []) = IsFile name
+TakesOnly verb (name ∷ (extra ∷ more)) = Stops 2 (extra_text verb extra)
+
+-- | the operand of a command that takes at most one file
+-- The same, unless memory ran out before.
 abbrev pub TakesFile : {S : Type 0} → Verb → (operands : List (List ℕ)) → Result (Bor (List ℕ)) ℕ → (old new : Run S)
     → Type 0
-TakesFile verb [] = IsFile (codes "-")
-TakesFile verb (name ∷ []) = IsFile name
-TakesFile verb (name ∷ (extra ∷ more)) = Stops 2 (extra_text verb extra)
+TakesFile verb operands = Then Allots (λ (allotted : Unit {0}). TakesOnly verb operands)
 
 -- These sections stay by the options of `strip`.
 pub record IsKept (reads : List Read) (keep : Keep) : Type 0 where
   pub names : keep.names ≡ has_option option.KeepNames reads
   pub kept : texts keep.kept.now ≡ values_in option.Keep reads
   pub removed : texts keep.removed.now ≡ values_in option.Only reads
-
--- what the arguments of `strip` ask for
-pub record IsStripAsked (reads : List Read) (asked : Asked) : Type 0 where
-  pub kept : texts asked.kept.items ≡ values_in option.Keep reads
-  pub removed : texts asked.removed.items ≡ values_in option.Only reads
-  pub operands : texts asked.operands.items ≡ operands_in reads
 
 -- the number that a word is: decimal digits, with an optional plus before them
 abbrev pub number_in : (word : List ℕ) → ℕ
@@ -173,11 +173,11 @@ AddsTo stream loaded (Err e) = (name : List ℕ) × FindsSection name 0 stream (
 
 -- ---- the data of sections that are added
 
-module _ {S I O : Type 0} (calls : SystemOf S I O) (sources : SourceOf I) (sinks : SinkOf O) where
+module _ {S I O : Type 0} (calls : SystemOf S I O) (sources : SourceOf I) where
   -- The file of a section was read, and these are the section's name and data.
   abbrev pub IsLoaded : (system : S) (addition loaded : List ℕ × List ℕ) → Type 0
   IsLoaded system addition loaded =
-      (loaded.0 ≡ addition.0) × Gave calls sources sinks system addition.1 loaded.1
+      (loaded.0 ≡ addition.0) × Gave calls sources system addition.1 loaded.1
 
   -- The files of some additions were read, and the next one could not be.
   pub record CannotLoad (additions : List (List ℕ × List ℕ)) (status : ℕ) (old new : Run S) : Type 0 where
@@ -187,7 +187,7 @@ module _ {S I O : Type 0} (calls : SystemOf S I O) (sources : SourceOf I) (sinks
     pub begins : take count additions ≡ first ++ next ∷ []
     pub loaded : List (List ℕ × List ℕ)
     pub loads : EachInTurn (IsLoaded old.system) first loaded
-    pub cannot : Holds calls sources sinks next.1 (Err status) old new
+    pub cannot : Holds calls sources next.1 (Err status) old new
 
   -- | the files with the data of sections that are added: each is read into memory, in order, or the first one that
   --   can't be is reported
@@ -199,21 +199,20 @@ module _ {S I O : Type 0} (calls : SystemOf S I O) (sources : SourceOf I) (sinks
   LoadsAll additions (Err status) old new =
       CannotLoad additions status old new ⊎ RunsOut {A = Unit {0}} (Err status) old new
 
-  -- The search ended so, and the output may have changed.
+module _ {S I O : Type 0} (calls : SystemOf S I O) where
+  -- The search of an opened file ended so.
   pub record SearchesOpened (name : List ℕ) (result : Result (Unit {0}) ℕ) (old new : Run S) : Type 0 where
     pub opened : I
     pub opens : calls.opens old.system name (Ok opened)
-    pub middle : Run S
-    pub only : OnlyWrites old middle
     pub how : Result Ended ListError
-    pub ends : EndsRun name how result middle new
+    pub ends : EndsRun name how result old new
 
-  -- | a file that is searched for sections: it is read to its end, or the search stops. Nothing is said of the output
+  -- | a file that is searched for sections: it is read to its end, or the search stops. Nothing is written
   -- The file was read to its end, or it has a fault, or reading it failed, or memory ran out.
   abbrev pub Searches : {A : Type 0} → (name : List ℕ) → Result A ℕ → (old new : Run S) → Type 0
   Searches name (Ok found) old new = SearchesOpened name (Ok tt) old new
   Searches name (Err status) old new = RunsOut {A = Unit {0}} (Err status) old new
-      ⊎ (Opens calls sources sinks name (Err status) old new ⊎ SearchesOpened name (Err status) old new)
+      ⊎ (Opens calls name (Err status) old new ⊎ SearchesOpened name (Err status) old new)
 
 -- ---- `producers --set`
 
@@ -254,10 +253,15 @@ FindsChange stream (Err e) = FindsSection (codes "producers") 0 stream (Err e)
     ⊎ ((found : Option Custom) × FindsSection (codes "producers") 0 stream (Ok found))
 
 -- All values of `--set` are settings, or the first that is none was refused.
-abbrev pub TakesSettings : {S A : Type 0} → (words : List (List ℕ)) → Result A ℕ → (old new : Run S) → Type 0
-TakesSettings words (Ok settings) old new = (no_setting words ≡ None) × (new ≡ old)
-TakesSettings words (Err status) old new = (word : List ℕ) × (no_setting words ≡ Some word)
+abbrev pub AreSettings : {S A : Type 0} → (words : List (List ℕ)) → Result A ℕ → (old new : Run S) → Type 0
+AreSettings words (Ok settings) old new = (no_setting words ≡ None) × (new ≡ old)
+AreSettings words (Err status) old new = (word : List ℕ) × (no_setting words ≡ Some word)
     × Stops {A = Unit {0}} 2 (wrong_value_text verb.Producers (codes "--set") word) (Err status) old new
+
+-- The same, unless memory ran out before.
+abbrev pub TakesSettings : {S : Type 0} → (words : List (List ℕ)) → Result (Vec Setting Global) ℕ → (old new : Run S)
+    → Type 0
+TakesSettings words = Then Allots (λ (allotted : Unit {0}). AreSettings words)
 
 -- ---- `extract`
 
@@ -268,12 +272,17 @@ IsSection wanted name result old new = (section : Bor (List ℕ)) × (file : Bor
     × (result ≡ Ok (section, file)) × (section.now ≡ wanted) × (file.now ≡ name) × (new ≡ old)
 
 -- `extract` takes a name and at most one file, and without one standard input.
+abbrev pub TakesNamed : {S : Type 0} → (operands : List (List ℕ)) → Result (Bor (List ℕ) × Bor (List ℕ)) ℕ
+    → (old new : Run S) → Type 0
+TakesNamed [] = Stops 2 (about_word verb.Extract (codes "needs ") (codes "NAME") [])
+TakesNamed (wanted ∷ []) = IsSection wanted (codes "-")
+TakesNamed (wanted ∷ (name ∷ [])) = IsSection wanted name
+TakesNamed (wanted ∷ (name ∷ (extra ∷ more))) = Stops 2 (extra_text verb.Extract extra)
+
+-- The same, unless memory ran out before.
 abbrev pub TakesSection : {S : Type 0} → (operands : List (List ℕ)) → Result (Bor (List ℕ) × Bor (List ℕ)) ℕ
     → (old new : Run S) → Type 0
-TakesSection [] = Stops 2 (about_word verb.Extract (codes "needs ") (codes "NAME") [])
-TakesSection (wanted ∷ []) = IsSection wanted (codes "-")
-TakesSection (wanted ∷ (name ∷ [])) = IsSection wanted name
-TakesSection (wanted ∷ (name ∷ (extra ∷ more))) = Stops 2 (extra_text verb.Extract extra)
+TakesSection operands = Then Allots (λ (allotted : Unit {0}). TakesNamed operands)
 
 -- The wanted section comes after this many others with its name, or the value of `--index` was refused.
 abbrev pub TakesIndex : {S : Type 0} → (index : Option (Option (List ℕ))) → Result ℕ ℕ → (old new : Run S) → Type 0
@@ -281,105 +290,102 @@ TakesIndex index (Ok skips) old new = Skips index (Some skips) × (new ≡ old)
 TakesIndex index (Err status) old new = Skips index None × Stops {A = Unit {0}} 2
     (wrong_value_text verb.Extract (codes "--index") (value_text index)) (Err status) old new
 
-module _ {S I O : Type 0} (calls : SystemOf S I O) (sources : SourceOf I) (sinks : SinkOf O)
-    (target : Option (List ℕ)) where
+module _ {S I O : Type 0} (calls : SystemOf S I O) (sinks : SinkOf O) (route : Route) where
   -- what is written of a section that was found, or said of one that was not
-  abbrev pub EndsExtract : (wanted name : List ℕ) → Result (Option Custom) Error → Result (Unit {0}) ℕ
-      → (old new : Run S) → Type 0
-  EndsExtract wanted name (Ok (Some section)) =
-      WritesTo calls sources sinks (place section.reader).rest name target
-  EndsExtract wanted name (Ok None) = Stops 1 (missing_text verb.Extract name wanted)
-  EndsExtract wanted name (Err e) = StopsAtFault name e
+  abbrev pub EndsExtract : (wanted : List ℕ) → Result (Option Custom) Error → Result (Unit {0}) ℕ → (old new : Run S)
+      → Type 0
+  EndsExtract wanted (Ok (Some section)) = WritesTo calls sinks (place section.reader).rest route
+  EndsExtract wanted (Ok None) = Stops 1 (missing_text verb.Extract route.name wanted)
+  EndsExtract wanted (Err e) = StopsAtFault route.name e
 
   -- The data of the section were written, if the stream has it before its first fault.
-  pub record ExtractsFrom (wanted : List ℕ) (skips : ℕ) (name stream : List ℕ) (result : Result (Unit {0}) ℕ)
+  pub record ExtractsFrom (wanted : Wanted) (stream : List ℕ) (result : Result (Unit {0}) ℕ)
       (old new : Run S) : Type 0 where
     pub found : Result (Option Custom) Error
-    pub finds : FindsSection wanted skips stream found
-    pub ends : EndsExtract wanted name found result old new
+    pub finds : FindsSection wanted.name.now wanted.before stream found
+    pub ends : EndsExtract wanted.name.now found result old new
 
   -- These bytes were written, unless memory ran out before.
-  abbrev pub WritesSet : (bytes name : List ℕ) → Result (Unit {0}) ℕ → (old new : Run S) → Type 0
-  WritesSet bytes name =
-      Then Allots (λ (allotted : Unit {0}). WritesTo calls sources sinks bytes name target)
+  abbrev pub WritesSet : (bytes : List ℕ) → Result (Unit {0}) ℕ → (old new : Run S) → Type 0
+  WritesSet bytes = Then Allots (λ (allotted : Unit {0}). WritesTo calls sinks bytes route)
 
   -- The stream was written with the new section in place of its first one with the name.
-  pub record ReplacesIn (new_section : NewSection) (name stream : List ℕ) (result : Result (Unit {0}) ℕ)
+  pub record ReplacesIn (new_section : NewSection) (stream : List ℕ) (result : Result (Unit {0}) ℕ)
       (old new : Run S) : Type 0 where
     pub bytes : List ℕ
     pub replaces : ReplacesFirst new_section stream bytes
-    pub writes : WritesSet bytes name result old new
+    pub writes : WritesSet bytes result old new
 
   -- The stream has no section with the name, and was written with the new one after its own.
-  pub record AppendsIn (new_section : NewSection) (name stream : List ℕ) (result : Result (Unit {0}) ℕ)
+  pub record AppendsIn (new_section : NewSection) (stream : List ℕ) (result : Result (Unit {0}) ℕ)
       (old new : Run S) : Type 0 where
     pub bytes : List ℕ
     pub none : FindsFirst new_section.name.now stream (Ok None)
     pub appends : IsEdited (edit.Append new_section ∷ []) stream bytes
-    pub writes : WritesSet bytes name result old new
+    pub writes : WritesSet bytes result old new
 
   -- The stream has this fault, and this was said.
-  pub record StopsIn (stream name : List ℕ) (result : Result (Unit {0}) ℕ) (old new : Run S) : Type 0 where
+  pub record StopsIn (stream : List ℕ) (result : Result (Unit {0}) ℕ) (old new : Run S) : Type 0 where
     pub fault : Error
     pub ends : EndsWithFault stream fault
-    pub stops : StopsAtFault name fault result old new
+    pub stops : StopsAtFault route.name fault result old new
 
   -- The section was set in a stream without a fault, or the fault was said.
-  abbrev pub SetsIn : (new_section : NewSection) (name stream : List ℕ) → Result (Unit {0}) ℕ → (old new : Run S)
+  abbrev pub SetsIn : (new_section : NewSection) (stream : List ℕ) → Result (Unit {0}) ℕ → (old new : Run S)
       → Type 0
-  SetsIn new_section name stream result old new = ReplacesIn new_section name stream result old new
-      ⊎ (AppendsIn new_section name stream result old new ⊎ StopsIn stream name result old new)
+  SetsIn new_section stream result old new = ReplacesIn new_section stream result old new
+      ⊎ (AppendsIn new_section stream result old new ⊎ StopsIn stream result old new)
 
   -- The section was set, or refused since it is too large.
-  abbrev pub SetsNew : (new_section : NewSection) (name stream : List ℕ) → Result (Unit {0}) ℕ → (old new : Run S)
+  abbrev pub SetsNew : (new_section : NewSection) (stream : List ℕ) → Result (Unit {0}) ℕ → (old new : Run S)
       → Type 0
-  SetsNew new_section name stream result old new =
+  SetsNew new_section stream result old new =
       (¬ Fits new_section × Stops 2 (too_large_text verb.Producers new_section.name.now) result old new)
-      ⊎ SetsIn new_section name stream result old new
+      ⊎ SetsIn new_section stream result old new
 
   -- The section was set to new data.
-  pub record SetsSection (name stream : List ℕ) (result : Result (Unit {0}) ℕ) (old new : Run S) : Type 0 where
+  pub record SetsSection (stream : List ℕ) (result : Result (Unit {0}) ℕ) (old new : Run S) : Type 0 where
     pub new_section : NewSection
     pub named : new_section.name.now ≡ codes "producers"
-    pub sets : SetsNew new_section name stream result old new
+    pub sets : SetsNew new_section stream result old new
 
   -- The first section with producers was looked for and changed, or has a fault.
-  pub record SetsFound (name stream : List ℕ) (result : Result (Unit {0}) ℕ) (old new : Run S) : Type 0 where
+  pub record SetsFound (stream : List ℕ) (result : Result (Unit {0}) ℕ) (old new : Run S) : Type 0 where
     pub change : Result (Vec ℕ Global) Error
     pub finds : FindsChange stream change
-    pub ends : Then (IsSound name change) (λ changed. SetsSection name stream) result old new
+    pub ends : Then (IsSound route.name change) (λ changed. SetsSection stream) result old new
 
   -- The same, unless memory ran out before.
-  abbrev pub SetsHeld : (name stream : List ℕ) → Result (Unit {0}) ℕ → (old new : Run S) → Type 0
-  SetsHeld name stream = Then Allots (λ (allotted : Unit {0}). SetsFound name stream)
+  abbrev pub SetsHeld : (stream : List ℕ) → Result (Unit {0}) ℕ → (old new : Run S) → Type 0
+  SetsHeld stream = Then Allots (λ (allotted : Unit {0}). SetsFound stream)
 
 module _ {S I O : Type 0} (calls : SystemOf S I O) (sources : SourceOf I) (sinks : SinkOf O) (reads : List Read) where
   -- The sections of a file stay that are to be kept, and other custom sections are removed.
   pub record StripsFile (name : List ℕ) (result : Result (Unit {0}) ℕ) (old new : Run S) : Type 0 where
     pub keep : Keep
     pub kept : IsKept reads keep
-    pub changes : Changes calls sources sinks (edit.Keep keep ∷ []) name (target_in reads) result old new
+    pub changes : Changes calls sources sinks (edit.Keep keep ∷ []) (route_from name reads) result old new
 
   -- | the command `strip`: the file or standard input, the sections that stay by `--keep`, `--only` and `--keep-names`,
   --   and where the stream is written
   abbrev pub Strips : Result (Unit {0}) ℕ → (old new : Run S) → Type 0
-  Strips = Then Allots (λ (allotted : Unit {0}).
-      Then (TakesFile verb.Strip (operands_in reads)) (λ file. StripsFile file.now))
+  Strips = Then Allots (λ (kept : Unit {0}). Then Allots (λ (removed : Unit {0}).
+      Then (TakesFile verb.Strip (operands_in reads)) (λ file. StripsFile file.now)))
 
   -- | the command `extract`: the file or standard input, the section that is found by its name and `--index`, and where
   --   its data are written
   abbrev pub Extracts : Result (Unit {0}) ℕ → (old new : Run S) → Type 0
-  Extracts = Then Allots (λ (allotted : Unit {0}). Then (TakesSection (operands_in reads)) (λ taken.
-      Then (TakesIndex (last_value option.Index None reads)) (λ skips. Then (Holds calls sources sinks taken.1.now)
-      (λ bytes. ExtractsFrom calls sources sinks (target_in reads) taken.0.now skips taken.1.now bytes.items))))
+  Extracts = Then (TakesSection (operands_in reads)) (λ taken.
+      Then (TakesIndex (last_value option.Index None reads)) (λ skips. Then (Holds calls sources taken.1.now)
+      (λ bytes. ExtractsFrom calls sinks (route_from taken.1.now reads) (record { name = taken.0; before = skips })
+      bytes.items)))
 
   -- | the command `producers --set`: the file or standard input, the section that is set, and where the stream is
   --   written. The new data of the section are not stated
   abbrev pub SetsProducers : Result (Unit {0}) ℕ → (old new : Run S) → Type 0
-  SetsProducers = Then Allots (λ (allotted : Unit {0}). Then (TakesSettings (values_in option.Set reads))
-      (λ (settings : Unit {0}). Then Allots (λ (again : Unit {0}). Then (TakesFile verb.Producers (operands_in reads))
-      (λ file. Then (Holds calls sources sinks file.now)
-      (λ bytes. SetsHeld calls sources sinks (target_in reads) file.now bytes.items)))))
+  SetsProducers = Then (TakesSettings (values_in option.Set reads))
+      (λ settings. Then (TakesFile verb.Producers (operands_in reads)) (λ file. Then (Holds calls sources file.now)
+      (λ bytes. SetsHeld calls sinks (route_from file.now reads) bytes.items)))
 
 -- ---- `add`
 
@@ -413,10 +419,15 @@ pub record TakesOperands {S : Type 0} (operands : List (List ℕ))
   pub takes : Then Allots (λ (allotted : Unit {0}). TakesWords (no_addition words) words file) result old new
 
 -- `add` takes sections and a file, of which at most one is standard input.
+abbrev pub TakesParts : {S : Type 0} → (operands : List (List ℕ))
+    → Result (Vec Addition Global × Bor (List ℕ)) ℕ → (old new : Run S) → Type 0
+TakesParts operands result old new = ((length operands < 2) × Stops 2 few_text result old new)
+    ⊎ TakesOperands operands result old new
+
+-- The same, unless memory ran out before.
 abbrev pub TakesAdditions : {S : Type 0} → (operands : List (List ℕ))
     → Result (Vec Addition Global × Bor (List ℕ)) ℕ → (old new : Run S) → Type 0
-TakesAdditions operands result old new = ((length operands < 2) × Stops 2 few_text result old new)
-    ⊎ TakesOperands operands result old new
+TakesAdditions operands = Then Allots (λ (allotted : Unit {0}). TakesParts operands)
 
 module _ {S I O : Type 0} (calls : SystemOf S I O) (sources : SourceOf I) (sinks : SinkOf O)
     (target : Option (List ℕ)) where
@@ -462,7 +473,7 @@ module _ {S I O : Type 0} (calls : SystemOf S I O) (sources : SourceOf I) (sinks
   abbrev pub ReplacesInFile : (loaded : List (List ℕ × List ℕ)) (name : List ℕ) → Result (Unit {0}) ℕ
       → (old new : Run S) → Type 0
   ReplacesInFile loaded name =
-      Then (Searches calls sources sinks name) (λ (found : Unit {0}). AddsFound loaded name)
+      Then (Searches calls name) (λ (found : Unit {0}). AddsFound loaded name)
 
   -- with `--replace`, by what is held of the stream
   abbrev pub AddsReplaced : (loaded : List (List ℕ × List ℕ)) (original : Original) → Option (Vec ℕ Global)
@@ -480,16 +491,18 @@ abbrev pub IsPrepared : {S : Type 0} → Vec Loaded Global → Original → Resu
     → (old new : Run S) → Type 0
 IsPrepared loaded original result old new = (result ≡ Ok (loaded, original)) × (new ≡ old)
 
-module _ {S I O : Type 0} (calls : SystemOf S I O) (sources : SourceOf I) (sinks : SinkOf O) where
+module _ {S I O : Type 0} (calls : SystemOf S I O) (sources : SourceOf I) where
   -- The data of all sections were read, and then the stream to which they are added.
   abbrev pub Prepares : (operands : List (List ℕ)) → Result (Vec Loaded Global × Original) ℕ → (old new : Run S)
       → Type 0
-  Prepares operands = Then Allots (λ (allotted : Unit {0}). Then (TakesAdditions operands) (λ taken.
-      Then (LoadsAll calls sources sinks (map parts_of taken.0.items)) (λ loaded.
-      Then (Finds calls sources sinks taken.1.now) (λ original. IsPrepared loaded original))))
+  Prepares operands = Then (TakesAdditions operands) (λ taken.
+      Then (LoadsAll calls sources (map parts_of taken.0.items)) (λ loaded.
+      Then (Finds calls sources taken.1.now) (λ original. IsPrepared loaded original)))
 
+module _ {S I O : Type 0} (calls : SystemOf S I O) (sources : SourceOf I) (sinks : SinkOf O) where
   -- | the command `add`: the sections and the files with their data, the file or standard input to which they are
   --   added, and where the stream is written [`Prepares`, `AddsLoaded`, `AddsBy`]
   abbrev pub Adds : List Read → Result (Unit {0}) ℕ → (old new : Run S) → Type 0
-  Adds reads = Then (Prepares (operands_in reads)) (λ prepared. AddsLoaded calls sources sinks (target_in reads)
+  Adds reads = Then (Prepares calls sources (operands_in reads))
+      (λ prepared. AddsLoaded calls sources sinks (target_in reads)
       (has_option option.Replace reads) (map loaded_parts prepared.0.items) prepared.1)

@@ -20,10 +20,12 @@ use Rattle.wasm_console.specs.Devices.{IsUntouched}
 use Rattle.wasm_console.specs.Strips.{ReadsAll}
 use Rattle.wasm_commands.specs.ArgumentLists.{Read, last_value}
 use Rattle.wasm_commands.specs.EditsTwice.{EditsTwice}
+use Rattle.wasm_commands.specs.Parsing.{text_if_any}
 use Rattle.wasm_commands.specs.Runs.{Fails, FailsToWrite, RefusesFor, Run, StopsAtFault, Then, output_of}
 use Rattle.wasm_commands.specs.declared.options.Flag.TheVariants as option
 use Rattle.wasm_commands.specs.declared.reasons.Cause.{Cause}
 use Rattle.wasm_commands.specs.declared.rewriting.Original.{Original}
+use Rattle.wasm_commands.specs.declared.rewriting.Way.{Way}
 use Rattle.wasm_commands.specs.declared.system.System.{Ghosts as SystemOf}
 
 -- ---- how a run over a stream ends
@@ -139,12 +141,39 @@ file_named None = None
 abbrev pub target_in : List Read → Option (List ℕ)
 target_in reads = file_named (last_value option.Output None reads)
 
+-- where a command reads a stream, and the file that it writes, if that is not the output
+pub record Route : Type 0 where
+  pub name : List ℕ
+  pub target : Option (List ℕ)
+
+abbrev pub route : Way → Route
+route way = record { name = way.name.now; target = text_if_any way.target }
+
+-- the route from a file, by the arguments
+abbrev pub route_from : (name : List ℕ) → List Read → Route
+route_from name reads = record { name = name; target = target_in reads }
+
 -- ---- the files of a system, by what its calls may return
 
-module _ {S I O : Type 0} (calls : SystemOf S I O) (sources : SourceOf I) (sinks : SinkOf O) where
-  abbrev pub input_device : (opened rest : I) → Device
-  input_device opened rest = device_of sources.remaining sources.has_failed opened rest
+abbrev pub input_device : {I : Type 0} → SourceOf I → (opened rest : I) → Device
+input_device sources opened rest = device_of sources.remaining sources.has_failed opened rest
 
+-- What was written was flushed at its end, and the command goes on or stops.
+pub record Forwards {S : Type 0} (name : List ℕ) (how : Result Ended ListError) (result : Result (Unit {0}) ℕ)
+    (old new : Run S) : Type 0 where
+  pub flushed : Result Ended ListError
+  pub middle : Run S
+  pub keeps : Keeps old.written.bytes middle.written.bytes
+  pub flushes : FlushesAtEnd how (output_of old middle) middle.forwarded flushed
+  pub only : OnlyWrites old middle
+  pub ends : EndsRun name flushed result middle new
+
+abbrev pub EndsOutput : {S : Type 0} → (name : List ℕ) → Result (Result Ended ListError) Cause → Result (Unit {0}) ℕ
+    → (old new : Run S) → Type 0
+EndsOutput name (Ok how) result old new = Forwards name how result old new
+EndsOutput name (Err cause) result old new = RefusesFor name cause result old new
+
+module _ {S I O : Type 0} (calls : SystemOf S I O) where
   -- | a file that is opened, or refused with the system's reason
   -- The file was opened, or it was said why not.
   abbrev pub Opens : (name : List ℕ) → Result I ℕ → (old new : Run S) → Type 0
@@ -152,6 +181,33 @@ module _ {S I O : Type 0} (calls : SystemOf S I O) (sources : SourceOf I) (sinks
   Opens name (Err status) old new = (cause : Cause) × calls.opens old.system name (Err cause)
       × RefusesFor {A = Unit {0}} name cause (Err status) old new
 
+  -- | a file that is begun, to replace another one
+  -- A file was created that is to replace the target, or it was said why not.
+  abbrev pub Creates : (name target : List ℕ) → Result O ℕ → (old new : Run S) → Type 0
+  Creates name target (Ok created) old new =
+      calls.creates old.system name target (Ok created) new.system × (new ≡ record old { system = new.system })
+  Creates name target (Err status) old new = (later : S) × (cause : Cause)
+      × calls.creates old.system name target (Err cause) later
+      × RefusesFor {A = Unit {0}} target cause (Err status) (record old { system = later }) new
+
+  -- | a file that is replaced by what was written, if that is complete, and else discarded
+  -- The target was replaced by what was written, or that was discarded, as it was complete or not; or it was said why
+  -- not.
+  abbrev pub Takes : (target : List ℕ) (written : O) (is_complete : Bool) → Result (Unit {0}) ℕ → (old new : Run S)
+      → Type 0
+  Takes target written is_complete (Ok done) old new =
+      calls.replaces old.system written is_complete (Ok tt) new.system × (new ≡ record old { system = new.system })
+  Takes target written is_complete (Err status) old new = (later : S) × (cause : Cause)
+      × calls.replaces old.system written is_complete (Err cause) later
+      × RefusesFor {A = Unit {0}} target cause (Err status) (record old { system = later }) new
+
+  -- The target was replaced exactly if this is a success, and the command then ends as it was to.
+  abbrev pub Closes : (target : List ℕ) (written : O) (is_complete : Bool) (ended : Result (Unit {0}) ℕ)
+      → Result (Unit {0}) ℕ → (old new : Run S) → Type 0
+  Closes target written is_complete ended =
+      Then (Takes target written is_complete) (λ done result old new. (result ≡ ended) × (new ≡ old))
+
+module _ {S I O : Type 0} (calls : SystemOf S I O) (sources : SourceOf I) where
   -- The file was opened, and these are all bytes that it had.
   pub record Gave (system : S) (name bytes : List ℕ) : Type 0 where
     pub opened : I
@@ -173,7 +229,7 @@ module _ {S I O : Type 0} (calls : SystemOf S I O) (sources : SourceOf I) (sinks
   -- The file was read into memory, or could not be opened, or not be read.
   abbrev pub Holds : (name : List ℕ) → Result (Vec ℕ Global) ℕ → (old new : Run S) → Type 0
   Holds name (Ok bytes) old new = Gave old.system name bytes.items × (new ≡ old)
-  Holds name (Err status) old new = Opens name (Err status) old new ⊎ CannotRead name status old new
+  Holds name (Err status) old new = Opens calls name (Err status) old new ⊎ CannotRead name status old new
 
   -- the stream of a file, of which nothing was checked yet
   pub record IsOriginal (name : List ℕ) (original : Original) : Type 0 where
@@ -197,7 +253,7 @@ module _ {S I O : Type 0} (calls : SystemOf S I O) (sources : SourceOf I) (sinks
     pub opened : I
     pub rest : I
     pub opens : calls.opens system name (Ok opened)
-    pub writes : EditsSource edits (input_device opened rest) output how
+    pub writes : EditsSource edits (input_device sources opened rest) output how
 
   -- The file was opened twice: it was read to be checked, and again while it was written with edits.
   pub record EditsReopened (system : S) (edits : List Edit) (name : List ℕ) (output : Device)
@@ -208,7 +264,8 @@ module _ {S I O : Type 0} (calls : SystemOf S I O) (sources : SourceOf I) (sinks
     pub second_rest : I
     pub opens : calls.opens system name (Ok first)
     pub reopens : calls.opens system name (Ok second)
-    pub writes : EditsTwice edits (input_device first first_rest) (input_device second second_rest) output how
+    pub writes : EditsTwice edits (input_device sources first first_rest)
+        (input_device sources second second_rest) output how
 
   -- a file that was opened, by whether it was checked before
   abbrev pub EditsFile : (system : S) (edits : List Edit) (name : List ℕ) (is_checked : Bool) (output : Device)
@@ -249,21 +306,6 @@ module _ {S I O : Type 0} (calls : SystemOf S I O) (sources : SourceOf I) (sinks
   EditsOriginal system edits original output (Err cause) =
       (original.held ≡ None) × calls.opens system original.name.now (Err cause) × IsUntouched output
 
-  -- What was written was flushed at its end, and the command goes on or stops.
-  pub record Forwards (name : List ℕ) (how : Result Ended ListError) (result : Result (Unit {0}) ℕ) (old new : Run S)
-      : Type 0 where
-    pub flushed : Result Ended ListError
-    pub middle : Run S
-    pub keeps : Keeps old.written.bytes middle.written.bytes
-    pub flushes : FlushesAtEnd how (output_of old middle) middle.forwarded flushed
-    pub only : OnlyWrites old middle
-    pub ends : EndsRun name flushed result middle new
-
-  abbrev pub EndsOutput : (name : List ℕ) → Result (Result Ended ListError) Cause → Result (Unit {0}) ℕ
-      → (old new : Run S) → Type 0
-  EndsOutput name (Ok how) result old new = Forwards name how result old new
-  EndsOutput name (Err cause) result old new = RefusesFor name cause result old new
-
   -- The stream was written to the output with edits, and flushed.
   pub record EditsOut (edits : List Edit) (original : Original) (result : Result (Unit {0}) ℕ) (old new : Run S)
       : Type 0 where
@@ -273,32 +315,7 @@ module _ {S I O : Type 0} (calls : SystemOf S I O) (sources : SourceOf I) (sinks
     pub only : OnlyWrites old middle
     pub ends : EndsOutput original.name.now edited result middle new
 
-  -- | a file that is begun, to replace another one
-  -- A file was created that is to replace the target, or it was said why not.
-  abbrev pub Creates : (name target : List ℕ) → Result O ℕ → (old new : Run S) → Type 0
-  Creates name target (Ok created) old new =
-      calls.creates old.system name target (Ok created) new.system × (new ≡ record old { system = new.system })
-  Creates name target (Err status) old new = (later : S) × (cause : Cause)
-      × calls.creates old.system name target (Err cause) later
-      × RefusesFor {A = Unit {0}} target cause (Err status) (record old { system = later }) new
-
-  -- | a file that is replaced by what was written, if that is complete, and else discarded
-  -- The target was replaced by what was written, or that was discarded, as it was complete or not; or it was said why
-  -- not.
-  abbrev pub Takes : (target : List ℕ) (written : O) (is_complete : Bool) → Result (Unit {0}) ℕ → (old new : Run S)
-      → Type 0
-  Takes target written is_complete (Ok done) old new =
-      calls.replaces old.system written is_complete (Ok tt) new.system × (new ≡ record old { system = new.system })
-  Takes target written is_complete (Err status) old new = (later : S) × (cause : Cause)
-      × calls.replaces old.system written is_complete (Err cause) later
-      × RefusesFor {A = Unit {0}} target cause (Err status) (record old { system = later }) new
-
-  -- The target was replaced exactly if this is a success, and the command then ends as it was to.
-  abbrev pub Closes : (target : List ℕ) (written : O) (is_complete : Bool) (ended : Result (Unit {0}) ℕ)
-      → Result (Unit {0}) ℕ → (old new : Run S) → Type 0
-  Closes target written is_complete ended =
-      Then (Takes target written is_complete) (λ done result old new. (result ≡ ended) × (new ≡ old))
-
+module _ {S I O : Type 0} (calls : SystemOf S I O) (sources : SourceOf I) (sinks : SinkOf O) where
   -- | a file that is replaced: a new file was created and received what is written of the stream. The target was
   --   replaced by it exactly if the stream was written to its end. Otherwise the new file was discarded
   -- A created file received what is written of the stream, and took the place of the target exactly if that is all.
@@ -306,29 +323,30 @@ module _ {S I O : Type 0} (calls : SystemOf S I O) (sources : SourceOf I) (sinks
       (result : Result (Unit {0}) ℕ) (old new : Run S) : Type 0 where
     pub written : O
     pub edited : Result (Result Ended ListError) Cause
-    pub writes : EditsOriginal old.system edits original (device_of sinks.taken sinks.has_failed created written) edited
+    pub writes : EditsOriginal calls sources old.system edits original
+        (device_of sinks.taken sinks.has_failed created written) edited
     pub whole : is_whole edited ≡ true
-        → IsWritten old.system edits original (device_of sinks.taken sinks.has_failed created written)
+        → IsWritten calls sources old.system edits original (device_of sinks.taken sinks.has_failed created written)
     pub middle : Run S
     pub ended : Result (Unit {0}) ℕ
     pub ends : EndsFile original.name.now target edited ended old middle
-    pub closes : Closes target written (is_whole edited) ended result middle new
+    pub closes : Closes calls target written (is_whole edited) ended result middle new
 
   abbrev pub EditsTarget : (edits : List Edit) (original : Original) (target : List ℕ) → Result (Unit {0}) ℕ
       → (old new : Run S) → Type 0
-  EditsTarget edits original target = Then (Creates original.name.now target) (Replaces edits original target)
+  EditsTarget edits original target = Then (Creates calls original.name.now target) (Replaces edits original target)
 
   -- | a stream that is written with edits to a file, or to the output
   abbrev pub EditsTo : (edits : List Edit) (original : Original) → Option (List ℕ) → Result (Unit {0}) ℕ
       → (old new : Run S) → Type 0
   EditsTo edits original (Some target) = EditsTarget edits original target
-  EditsTo edits original None = EditsOut edits original
+  EditsTo edits original None = EditsOut calls sources edits original
 
   -- | a file that is edited
-  abbrev pub Changes : (edits : List Edit) (name : List ℕ) (target : Option (List ℕ)) → Result (Unit {0}) ℕ
-      → (old new : Run S) → Type 0
-  Changes edits name target = Then (Finds name) (λ original. EditsTo edits original target)
+  abbrev pub Changes : (edits : List Edit) → Route → Result (Unit {0}) ℕ → (old new : Run S) → Type 0
+  Changes edits route = Then (Finds calls sources route.name) (λ original. EditsTo edits original route.target)
 
+module _ {S I O : Type 0} (calls : SystemOf S I O) (sinks : SinkOf O) where
   -- | a file that is replaced by these bytes, exactly if all of them were written
   -- A created file received the bytes, and took the place of the target exactly if all were written.
   pub record ReplacesBytes (bytes target : List ℕ) (created : O) (result : Result (Unit {0}) ℕ) (old new : Run S)
@@ -339,12 +357,15 @@ module _ {S I O : Type 0} (calls : SystemOf S I O) (sources : SourceOf I) (sinks
     pub middle : Run S
     pub ended : Result (Unit {0}) ℕ
     pub ends : EndsTarget target is_complete ended old middle
-    pub closes : Closes target written is_complete ended result middle new
+    pub closes : Closes calls target written is_complete ended result middle new
 
   abbrev pub WritesBytesTarget : (bytes name target : List ℕ) → Result (Unit {0}) ℕ → (old new : Run S) → Type 0
-  WritesBytesTarget bytes name target = Then (Creates name target) (ReplacesBytes bytes target)
+  WritesBytesTarget bytes name target = Then (Creates calls name target) (ReplacesBytes bytes target)
+
+  abbrev pub WritesBy : (bytes name : List ℕ) → Option (List ℕ) → Result (Unit {0}) ℕ → (old new : Run S) → Type 0
+  WritesBy bytes name (Some target) = WritesBytesTarget bytes name target
+  WritesBy bytes name None = WritesOut bytes
 
   -- | bytes that are written to a file, or to the output
-  abbrev pub WritesTo : (bytes name : List ℕ) → Option (List ℕ) → Result (Unit {0}) ℕ → (old new : Run S) → Type 0
-  WritesTo bytes name (Some target) = WritesBytesTarget bytes name target
-  WritesTo bytes name None = WritesOut bytes
+  abbrev pub WritesTo : (bytes : List ℕ) → Route → Result (Unit {0}) ℕ → (old new : Run S) → Type 0
+  WritesTo bytes route = WritesBy bytes route.name route.target

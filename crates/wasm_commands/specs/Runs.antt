@@ -1,5 +1,5 @@
 -- What a run of a command has done, and steps that follow one another.
-use Rattle.std.specs.Prelude.{◌≡◌, ◌⊎◌, ℕ, Bool, List, codes, Option, Result, Ok, Err}
+use Rattle.std.specs.Prelude.{◌≡◌, ◌⊎◌, ℕ, max, Bool, List, [], ◌∷◌, codes, Option, Result, Ok, Err}
 use Rattle.std.specs.declared.alloc.AllocError.{AllocError}
 use Rattle.wasm_base.specs.FaultAt.{fault_at}
 use Rattle.wasm_base.specs.declared.error.Error.{Error}
@@ -59,6 +59,34 @@ Then {R} {A} first later result old new =
     ((a : A) × (middle : R) × first (Ok a) old middle × later a result middle new)
     ⊎ ((status : ℕ) × (result ≡ Err status) × first (Err status) old new)
 
+-- | an exit status: 0 unless the command stopped
+-- the exit status of a command: 0 unless it stopped
+abbrev pub status_in : Result (Unit {0}) ℕ → ℕ
+status_in (Ok done) = 0
+status_in (Err status) = status
+
+-- First this was done, and then that, also after a refusal. The status is the greater one.
+pub record BothInTurn {R : Type 0} (first : Result (Unit {0}) ℕ → (old new : R) → Type 0)
+    (later : (status : ℕ) → (old new : R) → Type 0) (status : ℕ) (old new : R) : Type 0 where
+  pub result : Result (Unit {0}) ℕ
+  pub rest : ℕ
+  pub middle : R
+  pub does_first : first result old middle
+  pub does_later : later rest middle new
+  pub greatest : status ≡ max (status_in result) rest
+
+-- | several files or words, each in turn, and the greatest status [`BothInTurn`, `named_files`]
+-- Each of these was taken in turn, as `one` says of it, and the status is the greatest one.
+abbrev pub InTurn : {R : Type 0} → (one : (name : List ℕ) → Result (Unit {0}) ℕ → (old new : R) → Type 0)
+    → (names : List (List ℕ)) → (status : ℕ) → (old new : R) → Type 0
+InTurn one [] status old new = (status ≡ 0) × (new ≡ old)
+InTurn one (name ∷ names) status old new = BothInTurn (one name) (InTurn one names) status old new
+
+-- the files that operands name: standard input if there are none
+abbrev pub named_files : (operands : List (List ℕ)) → List (List ℕ)
+named_files [] = codes "-" ∷ []
+named_files (name ∷ names) = name ∷ names
+
 -- ---- messages
 
 -- | a message, and nothing else
@@ -101,6 +129,11 @@ RunsOut result old new = Stops 3 (codes "pulleynavy: out of memory\n") result ol
 abbrev pub Allocates : {S A : Type 0} → Result A AllocError → Result A ℕ → (old new : Run S) → Type 0
 Allocates (Ok a) result old new = (result ≡ Ok a) × (new ≡ old)
 Allocates (Err refused) result old new = RunsOut result old new
+
+-- This was allocated, or memory ran out.
+abbrev pub Makes : {S A : Type 0} → (has : A → Type 0) → Result A ℕ → (old new : Run S) → Type 0
+Makes has (Ok a) old new = has a × (new ≡ old)
+Makes has (Err status) old new = RunsOut {A = Unit {0}} (Err status) old new
 
 -- The command may have stopped since memory ran out.
 abbrev pub Allots : {S A : Type 0} → Result A ℕ → (old new : Run S) → Type 0

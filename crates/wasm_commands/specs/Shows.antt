@@ -1,142 +1,128 @@
 -- What `list` and `dump` do with files, and `producers` without `--set`.
-use Rattle.std.specs.Prelude.{◌≡◌, ◌⊎◌, ℕ, ◌<◌, ◌≤◌, Bool, true, false, List, [], ◌∷◌, ◌++◌, codes, max, take, Option}
-use Rattle.std.specs.Prelude.{Some, None, Result, Ok, Err}
-use Rattle.std.specs.Io.KnownBytes.{Appends}
+use Rattle.std.specs.Prelude.{◌≡◌, ◌⊎◌, ℕ, ◌<◌, ◌≤◌, Bool, true, false, ◌&&◌, not, List, [], ◌∷◌, ◌++◌, codes, length}
+use Rattle.std.specs.Prelude.{max, nat_lt, Option, Result, Ok, Err, is_ok}
 use Rattle.wasm_commands.specs.ArgumentLists.{Read, has_option, operands_in, values_in}
 use Rattle.wasm_commands.specs.Choices.{ChooseInTurn}
 use Rattle.wasm_commands.specs.Colors.{seen_as}
 use Rattle.wasm_commands.specs.DumpRuns.{RunsDump}
-use Rattle.wasm_commands.specs.EditsTwice.{dropped}
 use Rattle.wasm_commands.specs.Formats.{has_colors}
-use Rattle.wasm_commands.specs.Messages.{Reports, missing_text, names_text}
+use Rattle.wasm_commands.specs.Messages.{missing_text, names_text}
 use Rattle.wasm_commands.specs.Parsing.{texts}
-use Rattle.wasm_commands.specs.Systems.{Between, Files, FailsOn, InTurn, RefusesWith, StopsForMemory}
-use Rattle.wasm_commands.specs.Systems.{UsesFile, since, until}
+use Rattle.wasm_commands.specs.Rewrites.{EndsBytes, OnlyWrites, Opens, WritesBytes, input_device}
+use Rattle.wasm_commands.specs.Runs.{Fails, InTurn, Run, RunsOut, Stops, Then, output_of, status_in}
 use Rattle.wasm_commands.specs.declared.dump.Plan.{Plan}
 use Rattle.wasm_commands.specs.declared.dump.Request.{Request}
 use Rattle.wasm_commands.specs.declared.dump.format.Format.{Format}
-use Rattle.wasm_commands.specs.declared.messages.Causes.{Causes}
+use Rattle.wasm_commands.specs.declared.dump.run.Titles.{Titles}
 use Rattle.wasm_commands.specs.declared.options.Flag.TheVariants.{Bytes, Section}
 use Rattle.wasm_commands.specs.declared.options.Verb.{Verb}
 use Rattle.wasm_commands.specs.declared.options.Verb.TheVariants as verb
-use Rattle.wasm_console.specs.Devices.{IsUntouched}
-use Rattle.wasm_console.specs.Endings.{status_for}
+use Rattle.wasm_commands.specs.declared.system.System.{Ghosts as SystemOf}
 use Rattle.wasm_dumper.specs.declared.events.Only.{Only}
 use Rattle.wasm_dumper.specs.declared.events.Only.TheVariants.{All, Parts}
 use Rattle.wasm_streams.specs.declared.turns.Ended.{Ended}
-use Rattle.wasm_io.specs.Calls.{Device, output_failed}
-use Rattle.wasm_io.specs.Messages.{Says}
+use Rattle.wasm_streams.specs.declared.turns.Ended.TheVariants.{End, Fault}
 use Rattle.wasm_io.specs.declared.devices.ListError.{ListError}
-use Rattle.wasm_io.specs.declared.devices.ListError.TheVariants.{Output}
+use Rattle.wasm_io.specs.declared.devices.source.Source.{Ghosts as SourceOf}
+use Rattle.wasm_output.specs.ItemNames.{Names}
 
--- ---- one file
+-- ---- the line before a file
 
--- An input was dumped to the output and flushed, and the status and the message say how that ended.
-pub record DumpsInput (plan : Plan) (name : List ℕ) (input output errors : Device) (status : ℕ) : Type 0 where
-  pub forwarded : Bool
-  pub how : Result Ended ListError
-  pub causes : Causes
-  pub dumps : RunsDump plan.format plan.shown input (seen_as (has_colors plan.format) output) forwarded how
-  pub answers : status ≡ status_for how
-  pub reports : Reports name how causes errors
+-- The name of the file was written as a line, or the output failed.
+pub record WritesHeading {S : Type 0} (name : List ℕ) (result : Result (Unit {0}) ℕ) (old new : Run S) : Type 0 where
+  pub is_complete : Bool
+  pub middle : Run S
+  pub writes : WritesBytes (name ++ codes ":\n") (output_of old middle) is_complete
+  pub only : OnlyWrites old middle
+  pub ends : EndsBytes is_complete result middle new
 
--- The same, or memory ran out before.
-abbrev pub DumpsIfMemory : Plan → (name : List ℕ) → (input output errors : Device) (status : ℕ) → Type 0
-DumpsIfMemory plan name input output errors status =
-    DumpsInput plan name input output errors status ⊎ StopsForMemory output errors status
-
--- The file was opened and dumped, or could not be opened.
-abbrev pub DumpsFile : Files → Plan → (name : List ℕ) → (output errors : Device) (status : ℕ) → Type 0
-DumpsFile files plan name output errors status = UsesFile files (DumpsIfMemory plan name) name output errors status
-
--- An input was read for names, after which the file was opened again and dumped; or memory ran out while it was read.
-abbrev pub DumpsAgain : Files → Plan → (name : List ℕ) → (input output errors : Device) (status : ℕ) → Type 0
-DumpsAgain files plan name input output errors status =
-    DumpsFile files plan name output errors status ⊎ StopsForMemory output errors status
-
--- The same; or the file was refused, since it can be read only once.
-abbrev pub DumpsTwice : Files → Plan → (name : List ℕ) → (input output errors : Device) (status : ℕ) → Type 0
-DumpsTwice files plan name input output errors status =
-    DumpsAgain files plan name input output errors status ⊎ RefusesWith (names_text name) output errors status
-
--- The file was dumped with the names of its items, for which it is read twice. Standard input is not opened.
-pub record DumpsNamed (files : Files) (plan : Plan) (name : List ℕ) (output errors : Device) (status : ℕ) : Type 0
-  where
-    pub of_input : name ≡ codes "-" → RefusesWith (names_text name) output errors status
-    pub of_file : ¬ (name ≡ codes "-") → UsesFile files (DumpsTwice files plan name) name output errors status
-
--- by whether names are shown
-abbrev pub Dumps : (is_named : Bool) → Files → Plan → (name : List ℕ) → (output errors : Device) (status : ℕ)
+-- The same where files have titles. Nothing was done where they have none.
+abbrev pub Heads : {S : Type 0} → (is_titled : Bool) → (name : List ℕ) → Result (Unit {0}) ℕ → (old new : Run S)
     → Type 0
-Dumps true files plan name output errors status = DumpsNamed files plan name output errors status
-Dumps false files plan name output errors status = DumpsFile files plan name output errors status
+Heads true name result old new = WritesHeading name result old new
+Heads false name result old new = (result ≡ Ok tt) × (new ≡ old)
 
--- ---- what was not found
+-- ---- how a dump ends
+
+-- The status is 1 after a fault, which the dump has shown. Why a run failed is said.
+abbrev pub EndsDump : {S : Type 0} → (name : List ℕ) → Result Ended ListError → Result (Unit {0}) ℕ → (old new : Run S)
+    → Type 0
+EndsDump name (Ok End) result old new = (result ≡ Ok tt) × (new ≡ old)
+EndsDump name (Ok (Fault e)) result old new = (result ≡ Err 1) × (new ≡ old)
+EndsDump name (Err why) result old new = Fails name why result old new
 
 -- It was said that this word chose nothing of the file, or nothing was said.
-abbrev pub MayWarn : Verb → (name word : List ℕ) → (output errors : Device) (status : ℕ) → Type 0
-MayWarn verb name word output errors status =
-    ((status ≡ 1) × Says errors (missing_text verb name word)) ⊎ ((status ≡ 0) × IsUntouched errors)
-
--- This was said of some of these words, in order. The status is 1 if there are any.
-abbrev pub Warns : Verb → (name : List ℕ) (words : List (List ℕ)) → (errors : Device) (status : ℕ) → Type 0
-Warns verb name words errors status = InTurn (MayWarn verb name) words dropped errors status
+abbrev pub MayWarn : {S : Type 0} → Verb → (name word : List ℕ) → Result (Unit {0}) ℕ → (old new : Run S) → Type 0
+MayWarn verb name word result old new =
+    Stops 1 (missing_text verb name word) result old new ⊎ ((result ≡ Ok tt) × (new ≡ old))
 
 -- After a stream that was read to its end or fault, words that chose nothing were named; nothing was said after a run
 -- that failed.
-pub record WarnsAfter (plan : Plan) (name : List ℕ) (first : ℕ) (errors : Device) (status : ℕ) : Type 0 where
-  pub read : first ≤ 1
-      → (warned : ℕ) × Warns plan.verb name (texts plan.words.now) errors warned × (status ≡ max first warned)
-  pub failed : 1 < first → IsUntouched errors × (status ≡ first)
+pub record WarnsAfter {S : Type 0} (plan : Plan) (name : List ℕ) (first status : ℕ) (old new : Run S) : Type 0 where
+  pub read : first ≤ 1 → (warned : ℕ) × InTurn (MayWarn plan.verb name) (texts plan.words.now) warned old new
+      × (status ≡ max first warned)
+  pub failed : 1 < first → (status ≡ first) × (new ≡ old)
 
--- The file was dumped, and it was said which words chose nothing of it.
-pub record ShowsFile (files : Files) (plan : Plan) (name : List ℕ) (output errors : Device) (status : ℕ) : Type 0
-  where
-    pub said : Between
-    pub first : ℕ
-    pub dumps : Dumps plan.format.is_named files plan name output (until errors said) first
-    pub warns : WarnsAfter plan name first (since errors said) status
+-- ---- one file
 
--- ---- several files
+-- This input is to be dumped, unless memory ran out.
+abbrev pub StaysOpen : {S I : Type 0} → (opened : I) → Result (I × Titles) ℕ → (old new : Run S) → Type 0
+StaysOpen opened (Ok begun) old new = (begun.0 ≡ opened) × (new ≡ old)
+StaysOpen opened (Err status) old new = RunsOut {A = Unit {0}} (Err status) old new
 
--- All of a text was written, or a prefix of it if the output failed.
-abbrev pub WritesLine : (text : List ℕ) → (output : Device) → Result (Unit {0}) ListError → Type 0
-WritesLine text output (Ok done) =
-    Appends output.before output.after text × (output.has_failed ≡ output.had_failed)
-WritesLine text output (Err why) =
-    (why ≡ Output) × ((n : ℕ) × Appends output.before output.after (take n text)) × (output.has_failed ≡ true)
+-- An input was dumped to the output and flushed, and the command ends as that did.
+pub record DumpsInput {S I : Type 0} (sources : SourceOf I) (plan : Plan) (name : List ℕ) (opened : I)
+    (result : Result (Unit {0}) ℕ) (old new : Run S) : Type 0 where
+  pub rest : I
+  pub how : Result Ended ListError
+  pub middle : Run S
+  pub dumps : RunsDump plan.format plan.shown (input_device sources opened rest)
+      (seen_as (has_colors plan.format) (output_of old middle)) middle.forwarded how
+  pub only : OnlyWrites old middle
+  pub ends : EndsDump name how result middle new
 
--- the line before what is shown of a file
-abbrev pub heading : (name : List ℕ) → List ℕ
-heading name = name ++ codes ":\n"
+module _ {S I O : Type 0} (calls : SystemOf S I O) where
+  -- The names of a file's items were read, if it can be read again; or memory ran out.
+  abbrev pub MayReread : {A : Type 0} → (name : List ℕ) → Result A ℕ → (old new : Run S) → Type 0
+  MayReread name (Ok names) old new = calls.rereads old.system name true × (new ≡ old)
+  MayReread name (Err status) old new =
+      (calls.rereads old.system name false × Stops {A = Unit {0}} 2 (names_text name) (Err status) old new)
+      ⊎ RunsOut {A = Unit {0}} (Err status) old new
 
--- After its name the file was shown; or the name could not be written.
-abbrev pub ShowsAfter : Files → Plan → (name : List ℕ) → Result (Unit {0}) ListError → (output errors : Device)
-    (status : ℕ) → Type 0
-ShowsAfter files plan name (Ok done) output errors status = ShowsFile files plan name output errors status
-ShowsAfter files plan name (Err why) output errors status = FailsOn name why errors status × IsUntouched output
+  abbrev pub OpensForNames : {A : Type 0} → (name : List ℕ) → Result A ℕ → (old new : Run S) → Type 0
+  OpensForNames name = Then (Opens calls name) (λ opened. MayReread name)
 
--- The name of the file was written, and then the file was shown.
-pub record ShowsUnderName (files : Files) (plan : Plan) (name : List ℕ) (output errors : Device) (status : ℕ)
-    : Type 0 where
-  pub written : Between
-  pub headed : Result (Unit {0}) ListError
-  pub heads : WritesLine (heading name) (until output written) headed
-  pub shows : ShowsAfter files plan name headed (since output written) errors status
+  -- A file was opened and read for the names of its items. Standard input was refused, and not opened.
+  pub record ReadsNames {A : Type 0} (name : List ℕ) (result : Result A ℕ) (old new : Run S) : Type 0 where
+    pub of_input : name ≡ codes "-" → Stops 2 (names_text name) result old new
+    pub of_file : ¬ (name ≡ codes "-") → OpensForNames name result old new
 
--- One of several files was shown: under its name, unless it was shown as JSON, where each object has the name.
-abbrev pub ShowsTitled : (is_json : Bool) → Files → Plan → (name : List ℕ) → (output errors : Device) (status : ℕ)
-    → Type 0
-ShowsTitled true files plan name output errors status = ShowsFile files plan name output errors status
-ShowsTitled false files plan name output errors status = ShowsUnderName files plan name output errors status
+  -- by whether names are shown
+  abbrev pub TakesNames : {A : Type 0} → (is_named : Bool) → (name : List ℕ) → Result A ℕ → (old new : Run S) → Type 0
+  TakesNames true name result old new = ReadsNames name result old new
+  TakesNames false name result old new = (is_ok result ≡ true) × (new ≡ old)
 
--- | a file that is shown, or several, each under its name [`ShowsFile`, `ShowsUnderName`]
--- One file was shown, or standard input if none is named; or several files.
-abbrev pub ShowsFiles : Files → Plan → (names : List (List ℕ)) → (output errors : Device) (status : ℕ) → Type 0
-ShowsFiles files plan [] output errors status = ShowsFile files plan (codes "-") output errors status
-ShowsFiles files plan (name ∷ []) output errors status = ShowsFile files plan name output errors status
-ShowsFiles files plan (name ∷ (second ∷ more)) output errors status =
-    InTurn (ShowsTitled plan.format.is_json files plan) (name ∷ (second ∷ more)) output errors status
+  -- Names were read if they are shown, and then the file was opened, for a second time if it was read for names.
+  abbrev pub Begins : (is_named : Bool) → (name : List ℕ) → Result (I × Titles) ℕ → (old new : Run S) → Type 0
+  Begins is_named name =
+      Then (TakesNames {A = Option Names} is_named name) (λ names. Then (Opens calls name) StaysOpen)
+
+module _ {S I O : Type 0} (calls : SystemOf S I O) (sources : SourceOf I) where
+  -- The file was dumped, or could not be opened, or memory ran out before.
+  abbrev pub Dumps : Plan → (name : List ℕ) → Result (Unit {0}) ℕ → (old new : Run S) → Type 0
+  Dumps plan name = Then (Begins calls plan.format.is_named name) (λ begun. DumpsInput sources plan name begun.0)
+
+  -- The file was dumped, and it was said which words chose nothing of it.
+  pub record ShowsAll (plan : Plan) (name : List ℕ) (result : Result (Unit {0}) ℕ) (old new : Run S) : Type 0 where
+    pub first : Result (Unit {0}) ℕ
+    pub middle : Run S
+    pub dumps : Dumps plan name first old middle
+    pub warns : WarnsAfter plan name (status_in first) (status_in result) middle new
+
+  -- | a file that is shown, after its name where there are several [`Dumps`, `WarnsAfter`]
+  -- The file was shown, after its name if files have titles.
+  abbrev pub ShowsFile : Plan → (name : List ℕ) → Result (Unit {0}) ℕ → (old new : Run S) → Type 0
+  ShowsFile plan name = Then (Heads plan.is_titled name) (λ (headed : Unit {0}). ShowsAll plan name)
 
 -- ---- commands
 
@@ -156,6 +142,10 @@ abbrev pub ChooseFor : Verb → (words : List (List ℕ)) → List Only → Type
 ChooseFor verb words only =
     (chosen : List Only) × ChooseInTurn words chosen × (only ≡ chosen ++ also_chosen verb words)
 
+-- whether each file's name is written before what is shown of it: of several, unless JSON has the names
+abbrev pub has_titles : Format → (operands : List (List ℕ)) → Bool
+has_titles format operands = not format.is_json && nat_lt 1 (length operands)
+
 -- The plan is what the arguments ask for.
 pub record IsAsked (verb : Verb) (reads : List Read) (format : Format) (plan : Plan) : Type 0 where
   pub of_verb : plan.verb ≡ verb
@@ -163,16 +153,10 @@ pub record IsAsked (verb : Verb) (reads : List Read) (format : Format) (plan : P
   pub chooses : ChooseFor verb (words_asked verb reads) plan.shown.only.now
   pub bytes : plan.shown.has_bytes ≡ has_option Bytes reads
   pub formatted : plan.format ≡ format
+  pub titled : plan.is_titled ≡ has_titles format (operands_in reads)
 
 -- The request has the files that the arguments name, and the words and choices that they ask for.
 pub record IsRequest (verb : Verb) (reads : List Read) (request : Request) : Type 0 where
   pub names : texts request.names.items ≡ operands_in reads
   pub words : texts request.words.items ≡ words_asked verb reads
   pub chooses : ChooseFor verb (words_asked verb reads) request.only.items
-
--- The files that the arguments name were shown in this format.
-pub record ShowsIn (files : Files) (verb : Verb) (reads : List Read) (format : Format) (output errors : Device)
-    (status : ℕ) : Type 0 where
-  pub plan : Plan
-  pub asked : IsAsked verb reads format plan
-  pub shows : ShowsFiles files plan (operands_in reads) output errors status

@@ -3,7 +3,7 @@ ghost use Rattle.std.specs.Prelude.{◌≡◌, ◌++◌, ◌∷◌, [], false, I
 ghost use Rattle.wasm_commands.specs.ArgumentLists.{operands_in};
 ghost use Rattle.wasm_commands.specs.Parsing.{reads_of, text_if_any, texts};
 ghost use Rattle.wasm_commands.specs.Runs.{Allots};
-ghost use Rattle.wasm_commands.specs.RewriteCommands.{Adds, AddsBy, AddsFound, AddsHeld, AddsReplaced, AddsTo, AreAdditions, AreOperands, EachInTurn, IsAdded, IsAddedBy, IsAddition, LoadsAll, Prepares, ReplacesInFile, Searches, TakesAdditions, WritesAdded, is_asked_again, is_input, loaded_parts, parts_of};
+ghost use Rattle.wasm_commands.specs.RewriteCommands.{Adds, AddsBy, AddsFound, AddsHeld, AddsReplaced, AddsTo, AreAdditions, AreOperands, EachInTurn, IsAdded, IsAddedBy, IsAddition, LoadsAll, Prepares, ReplacesInFile, Searches, TakesAdditions, TakesParts, TakesWords, WritesAdded, is_asked_again, is_input, loaded_parts, no_addition, parts_of};
 
 use crate::arguments::Arguments;
 use crate::extract::{Wanted, find};
@@ -14,12 +14,12 @@ use crate::runner::Runner;
 use crate::system::System;
 use std::alloc::{AllocError, Global};
 use std::cell::Cell;
-use std::io::Write;
+use std::io::{self, Write};
 use wasm_console::PIECE;
 use wasm_dumper::{Only, Shown, dump};
 use wasm_edits::{Edit, NewSection, all_fit};
-use wasm_io::{ListError, Sink, Source, WriteSink};
-use wasm_output::Faults;
+use wasm_io::{ListError, Sink, Source};
+use wasm_output::TextLines;
 use wasm_parser::Result as ParserResult;
 use wasm_streams::Ended;
 
@@ -190,24 +190,22 @@ fn choices_of<'a>(alloc: Global, loaded: &[Loaded<'a>]) -> Result<Vec<Only<'a>>,
     Ok(only)
 }
 
-// Reads a stream for these custom sections, and sets a flag for each one that it has. Returns how the stream ended, and the
-// output, to which nothing is written.
-fn find_named<R: Source, W: Write>(
+// Reads a stream for these custom sections, and sets a flag for each one that it has. Returns how the stream ended.
+fn find_named<R: Source>(
     alloc: Global,
     only: &[Only<'_>],
     found: &[Cell<bool>],
     input: &mut R,
-    output: WriteSink<W>,
-) -> (Result<Ended, ListError>, WriteSink<W>) {
+) -> Result<Ended, ListError> {
     let shown = Shown {
         only,
         has_bytes: false,
         found,
     };
-    // A quiet tree, as `check --quiet` has it, so that no other one is compiled.
-    let mut tree = Faults::new(alloc, output, String::new(alloc), true);
+    let mut tree = TextLines::new(alloc, io::sink());
     let how = dump(alloc, shown, input, &mut tree, PIECE);
-    (how, tree.into_output())
+    tree.into_output();
+    how
 }
 
 // Returns the name of the first section that is too large.
@@ -228,14 +226,41 @@ impl<S: System, W: Write, E: Sink> Runner<S, W, E> {
     fn additions_of<'a>(
         &mut self,
         alloc: Global,
+        arguments: &Arguments<'a>,
+    ) -> Result<(Vec<Addition<'a>>, &'a str), u8>
+        ensures { TakesAdditions (operands_in (reads_of arguments.now)) result self.old self.new }
+    {
+        let operands = self.operands(alloc, arguments)?;
+        self.additions_in(alloc, &operands)
+    }
+
+    // Returns what these operands add, and the file to which they add it.
+    fn additions_in<'a>(
+        &mut self,
+        alloc: Global,
         operands: &[&'a str],
     ) -> Result<(Vec<Addition<'a>>, &'a str), u8>
-        ensures { TakesAdditions (texts operands.now) result self.old self.new }
+        ensures { TakesParts (texts operands.now) result self.old self.new }
     {
         let Some(Operands { words, file }) = operands_of(operands) else {
             return Err(self.complain(Complaint::Few(Verb::Add, "NAME=DATA and FILE")));
         };
-        match self.allocated(parse_additions(alloc, words))? {
+        let parsed = self.allocated(parse_additions(alloc, words))?;
+        self.once(words, file, parsed)
+    }
+
+    // Returns what was parsed of these words, unless one was refused, or standard input is read twice.
+    fn once<'a>(
+        &mut self,
+        words: &[&'a str],
+        file: &'a str,
+        parsed: Result<Vec<Addition<'a>>, &'a str>,
+    ) -> Result<(Vec<Addition<'a>>, &'a str), u8>
+        requires { AreAdditions (texts words.now) parsed }
+        ensures { TakesWords (no_addition (texts words.now)) (texts words.now) file.now
+            result self.old self.new }
+    {
+        match parsed {
             Ok(additions) => {
                 if reads_input_twice(&additions, file) {
                     return Err(self.complain(Complaint::InputTwice));
@@ -252,7 +277,7 @@ impl<S: System, W: Write, E: Sink> Runner<S, W, E> {
         alloc: Global,
         additions: &[Addition<'a>],
     ) -> Result<Vec<Loaded<'a>>, u8>
-        ensures { LoadsAll S.System S.Input.Source S.Output.Sink (map parts_of additions.now)
+        ensures { LoadsAll S.System S.Input.Source (map parts_of additions.now)
             result self.old self.new }
     {
         let mut all = Vec::new(alloc);
@@ -287,11 +312,10 @@ impl<S: System, W: Write, E: Sink> Runner<S, W, E> {
         alloc: Global,
         arguments: &Arguments<'a>,
     ) -> Result<(Vec<Loaded<'a>>, Original<'a>), u8>
-        ensures { Prepares S.System S.Input.Source S.Output.Sink (operands_in (reads_of arguments.now))
+        ensures { Prepares S.System S.Input.Source (operands_in (reads_of arguments.now))
             result self.old self.new }
     {
-        let operands = self.allocated(arguments.operands(alloc))?;
-        let (additions, file) = self.additions_of(alloc, &operands)?;
+        let (additions, file) = self.additions_of(alloc, arguments)?;
         let loaded = self.load_all(alloc, &additions)?;
         let original = self.find(alloc, file)?;
         Ok((loaded, original))
@@ -362,72 +386,53 @@ impl<S: System, W: Write, E: Sink> Runner<S, W, E> {
         let found = self.allocated(vec![in alloc; Cell::new(false); loaded.len()])?;
         Ok((only, found))
     }
-}
 
-// Reads a file for the sections with these names. Returns a flag for each, whether the file has it, and the run.
-fn search<'a, S: System, W: Write, E: Sink>(
-    alloc: Global,
-    loaded: &[Loaded<'a>],
-    name: &str,
-    mut runner: Runner<S, W, E>,
-) -> (Result<Vec<Cell<bool>>, u8>, Runner<S, W, E>)
-    ensures { Searches S.System S.Input.Source S.Output.Sink name.now result.0 runner result.1 }
-{
-    let (only, found) = match runner.choose(alloc, loaded) {
-        Ok(chosen) => chosen,
-        Err(status) => return (Err(status), runner),
-    };
-    let mut input = match runner.open(name) {
-        Ok(input) => input,
-        Err(status) => return (Err(status), runner),
-    };
-    let (system, output, errors) = runner.into_parts();
-    let (how, output) = find_named(alloc, &only, &found, &mut input, output);
-    let mut runner = Runner::new(system, output, errors);
-    match runner.end(name, how) {
-        Ok(()) => (Ok(found), runner),
-        Err(status) => (Err(status), runner),
+    // Reads a file for the sections with these names. Returns a flag for each, whether the file has it.
+    fn search<'a>(
+        &mut self,
+        alloc: Global,
+        loaded: &[Loaded<'a>],
+        name: &str,
+    ) -> Result<Vec<Cell<bool>>, u8>
+        ensures { Searches S.System name.now result self.old self.new }
+    {
+        let (only, found) = self.choose(alloc, loaded)?;
+        let mut input = self.open(name)?;
+        let how = find_named(alloc, &only, &found, &mut input);
+        self.end(name, how)?;
+        Ok(found)
     }
-}
 
-// Searches a file for these sections, and writes it with them. Those that it has are replaced. Returns how that ended, and
-// the run.
-fn replace_in_file<'a, S: System, W: Write, E: Sink>(
-    alloc: Global,
-    loaded: &'a [Loaded<'a>],
-    name: &str,
-    target: Option<&str>,
-    runner: Runner<S, W, E>,
-) -> (Result<(), u8>, Runner<S, W, E>)
-    ensures { ReplacesInFile S.System S.Input.Source S.Output.Sink (text_if_any target.entry)
-        (map loaded_parts loaded.now) name.now result.0 runner result.1 }
-{
-    let (searched, mut runner) = search(alloc, loaded, name, runner);
-    let found = match searched {
-        Ok(found) => found,
-        Err(status) => return (Err(status), runner),
-    };
-    let ended = runner.add_found(alloc, loaded, &found, name, target);
-    (ended, runner)
-}
+    // Searches a file for these sections, and writes it with them. Those that it has are replaced.
+    fn replace_in_file<'a>(
+        &mut self,
+        alloc: Global,
+        loaded: &'a [Loaded<'a>],
+        name: &str,
+        target: Option<&str>,
+    ) -> Result<(), u8>
+        ensures { ReplacesInFile S.System S.Input.Source S.Output.Sink (text_if_any target.entry)
+            (map loaded_parts loaded.now) name.now result self.old self.new }
+    {
+        let found = self.search(alloc, loaded, name)?;
+        self.add_found(alloc, loaded, &found, name, target)
+    }
 
-// Writes a stream with these sections, in place of those with their names. Returns how that ended, and the run.
-fn replace_in<'a, S: System, W: Write, E: Sink>(
-    alloc: Global,
-    loaded: &'a [Loaded<'a>],
-    original: &Original<'_>,
-    target: Option<&str>,
-    mut runner: Runner<S, W, E>,
-) -> (Result<(), u8>, Runner<S, W, E>)
-    ensures { AddsReplaced S.System S.Input.Source S.Output.Sink (text_if_any target.entry)
-        (map loaded_parts loaded.now) original.now original.now.held result.0 runner result.1 }
-{
-    match &original.held {
-        Some(bytes) => {
-            let ended = runner.add_to_held(alloc, loaded, bytes, original, target);
-            (ended, runner)
+    // Writes a stream with these sections, in place of those with their names.
+    fn replace_in<'a>(
+        &mut self,
+        alloc: Global,
+        loaded: &'a [Loaded<'a>],
+        original: &Original<'_>,
+        target: Option<&str>,
+    ) -> Result<(), u8>
+        ensures { AddsReplaced S.System S.Input.Source S.Output.Sink (text_if_any target.entry)
+            (map loaded_parts loaded.now) original.now original.now.held result self.old self.new }
+    {
+        match &original.held {
+            Some(bytes) => self.add_to_held(alloc, loaded, bytes, original, target),
+            None => self.replace_in_file(alloc, loaded, original.name, target),
         }
-        None => replace_in_file(alloc, loaded, original.name, target, runner),
     }
 }
 
@@ -452,7 +457,8 @@ pub(crate) fn add<S: System, W: Write, E: Sink>(
     };
     let target = target_of(arguments);
     if arguments.has(Flag::Replace) {
-        replace_in(alloc, &loaded, &original, target, runner)
+        let ended = runner.replace_in(alloc, &loaded, &original, target);
+        (ended, runner)
     } else {
         let ended = runner.add_at_end(alloc, &loaded, &original, target);
         (ended, runner)

@@ -1,5 +1,5 @@
 // Where the first custom section with a name is in a stream.
-ghost use Rattle.std.specs.Prelude.{◌≡◌, ◌<◌, drop, length, take, true};
+ghost use Rattle.std.specs.Prelude.{◌≡◌, ◌<◌, true};
 ghost use Rattle.wasm_commands.specs.Finding.{has_name};
 ghost use Rattle.wasm_commands.specs.FirstNamed.{FindsFirst, GoesOn, IsPartOf, TakesPart, first_found};
 

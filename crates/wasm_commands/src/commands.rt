@@ -4,7 +4,7 @@ ghost use Rattle.std.specs.Process.{exit_status};
 ghost use Rattle.std.specs.Vec.Iter.{into_iter_items};
 ghost use Rattle.wasm_commands.specs.Commands.{Answers, PrintsHelp, RunsCommand, RunsGiven, RunsNamed, RunsOther, RunsParsed, RunsProgram, RunsWords};
 ghost use Rattle.wasm_commands.specs.Messages.{complaint_text};
-ghost use Rattle.wasm_commands.specs.Parsing.{reads_of};
+ghost use Rattle.wasm_commands.specs.Parsing.{reads_of, strings};
 ghost use Rattle.wasm_commands.specs.Refusals.{unknown_text};
 ghost use Rattle.wasm_commands.specs.Rewrites.{WritesOut};
 ghost use Rattle.wasm_commands.specs.Runs.{Stops};
@@ -35,19 +35,19 @@ use wasm_io::{Sink, WriteSink};
 fn run_command<S: System, W: Write, E: Sink>(
     alloc: Global,
     verb: Verb,
-    arguments: &Arguments<'_>,
+    args: &Arguments<'_>,
     mut runner: Runner<S, W, E>,
 ) -> (Result<(), u8>, Runner<S, W, E>)
-    ensures { RunsCommand S.System S.Input.Source S.Output.Sink verb (reads_of arguments.now)
+    ensures { RunsCommand S.System S.Input.Source S.Output.Sink verb (reads_of args.now)
         result.0 runner result.1 }
 {
     let ended = match verb {
-        Verb::List | Verb::Dump => return show(alloc, verb, arguments, runner),
-        Verb::Check => return check(alloc, arguments, runner),
-        Verb::Producers => return producers(alloc, arguments, runner),
-        Verb::Add => return add(alloc, arguments, runner),
-        Verb::Strip => strip(alloc, arguments, &mut runner),
-        Verb::Extract => extract(alloc, arguments, &mut runner),
+        Verb::List | Verb::Dump => return show(alloc, verb, args, runner),
+        Verb::Check => return check(alloc, args, runner),
+        Verb::Producers => return producers(alloc, args, runner),
+        Verb::Add => return add(alloc, args, runner),
+        Verb::Strip => strip(alloc, args, &mut runner),
+        Verb::Extract => extract(alloc, args, &mut runner),
     };
     (ended, runner)
 }
@@ -77,22 +77,22 @@ fn refuse<S: System, W: Write, E: Sink>(
 fn run_parsed<S: System, W: Write, E: Sink>(
     alloc: Global,
     verb: Verb,
-    arguments: &Arguments<'_>,
+    args: &Arguments<'_>,
     runner: Runner<S, W, E>,
 ) -> (Result<(), u8>, Runner<S, W, E>)
-    ensures { RunsParsed S.System S.Input.Source S.Output.Sink verb (reads_of arguments.now)
+    ensures { RunsParsed S.System S.Input.Source S.Output.Sink verb (reads_of args.now)
         result.0 runner result.1 }
 {
-    if arguments.has(Flag::Help) {
+    if args.has(Flag::Help) {
         return print(help_of(Topic::Command(verb)), runner);
     }
-    if arguments.has(Flag::Version) {
+    if args.has(Flag::Version) {
         return print(version(), runner);
     }
-    if arguments.has(Flag::NoProgress) {
+    if args.has(Flag::NoProgress) {
         runner.hide_progress();
     }
-    run_command(alloc, verb, arguments, runner)
+    run_command(alloc, verb, args, runner)
 }
 
 // Runs a command with these arguments. Returns how it ended, and the run.
@@ -102,7 +102,7 @@ fn run_verb<S: System, W: Write, E: Sink>(
     words: &[String],
     mut runner: Runner<S, W, E>,
 ) -> (Result<(), u8>, Runner<S, W, E>)
-    ensures { RunsNamed S.System S.Input.Source S.Output.Sink verb (map string_bytes words.now)
+    ensures { RunsNamed S.System S.Input.Source S.Output.Sink verb (strings words.now)
         result.0 runner result.1 }
 {
     match runner.allocated(parse(alloc, verb, words)) {
@@ -117,7 +117,7 @@ fn run_help<S: System, W: Write, E: Sink>(
     words: &[String],
     runner: Runner<S, W, E>,
 ) -> (Result<(), u8>, Runner<S, W, E>)
-    ensures { PrintsHelp (map string_bytes words.now) result.0 runner result.1 }
+    ensures { PrintsHelp (strings words.now) result.0 runner result.1 }
 {
     let [word, ..] = words else {
         return print(help_of(Topic::Program), runner);
@@ -145,7 +145,7 @@ fn run_other<S: System, W: Write, E: Sink>(
     more: &[String],
     runner: Runner<S, W, E>,
 ) -> (Result<(), u8>, Runner<S, W, E>)
-    ensures { RunsOther word.now (map string_bytes more.now) result.0 runner result.1 }
+    ensures { RunsOther word.now (strings more.now) result.0 runner result.1 }
 {
     match word {
         "help" | "--help" | "-h" => run_help(more, runner),
@@ -160,7 +160,7 @@ fn run_words<S: System, W: Write, E: Sink>(
     words: &[String],
     runner: Runner<S, W, E>,
 ) -> (Result<(), u8>, Runner<S, W, E>)
-    ensures { RunsWords S.System S.Input.Source S.Output.Sink (map string_bytes words.now)
+    ensures { RunsWords S.System S.Input.Source S.Output.Sink (strings words.now)
         result.0 runner result.1 }
 {
     let [word, more @ ..] = words else {
@@ -192,11 +192,11 @@ pub fn run<S: System, W: Write, E: Sink>(
     //   (`RunsWords`, `Stops`)]
     // Proved: `check` opens each file that it is asked for in turn, as the system allows, and its status is the greatest:
     //   0 for a file without a fault, 1 for one with a fault, and 3 with a message for one that could not be opened or
-    //   read [the clause of `run` (`RunsWords`, `ChecksFiles`)]
+    //   read [the clause of `run` (`RunsWords`, `InTurn`, `ChecksFile`)]
     // Proved: where `help`, `--help` or `--version` asks for a text, a text is written and forwarded, and the status is 0,
     //   or the output fails, and the status is 3 with its reason [the clause of `run` (`RunsWords`, `WritesOut`)]
-    // Proved: what `check`, `list` and `dump` wrote was forwarded if the status is 0 or 1, and they change no file [the
-    //   clause of `run` (`RunsWords`, `Reads`)]
+    // Proved: what `check`, `list` and `dump` wrote of a file was forwarded if its status is 0 or 1, and they change no
+    //   file [the clause of `run` (`RunsWords`: `ChecksOpened`, `DumpsInput`, `OnlyWrites`)]
     // Proved: `strip`, `extract`, `add` and `producers` do what is said of them above [the clause of `run` (`RunsWords`,
     //   `RunsCommand`)]
     // Proved: which files are created, replaced and discarded, and in which order: a body that replaces another file, or
@@ -204,8 +204,8 @@ pub fn run<S: System, W: Write, E: Sink>(
     // Proved: `list` and `dump` open each file in turn, twice for names, and write what is asked for in the format that is
     //   asked for, as lines each under its name if there are several. The status is the greatest: 0 for a file that was read to its
     //   end, 1 at its fault or with a message for each word that chose nothing, and 3 with the system's reason if something
-    //   failed [the clause of `run` (`RunsWords`, `Shows`)]
-    ensures { Answers (RunsWords S.System S.Input.Source S.Output.Sink (map string_bytes words.now))
+    //   failed [the clause of `run` (`RunsWords`, `InTurn`, `ShowsFile`)]
+    ensures { Answers (RunsWords S.System S.Input.Source S.Output.Sink (strings words.now))
         result.0 runner result.1 }
 {
     let (ended, runner) = run_words(alloc, words, runner);

@@ -1,12 +1,9 @@
 // The commands `dump` and `list`: show the items of files, or only their parts.
-ghost use Rattle.std.specs.Prelude.{◌≡◌, ◌<◌, ◌≤◌, length, IfOk};
-ghost use Rattle.wasm_commands.specs.ArgumentLists.{operands_in};
-ghost use Rattle.wasm_commands.specs.EditsTwice.{dropped};
+ghost use Rattle.std.specs.Prelude.{◌≡◌, IfOk};
+ghost use Rattle.wasm_commands.specs.Commands.{Shows};
 ghost use Rattle.wasm_commands.specs.Parsing.{reads_of, texts};
-ghost use Rattle.wasm_commands.specs.Shows.{ChooseFor, Dumps, DumpsAgain, DumpsFile, DumpsIfMemory, DumpsNamed, DumpsTwice, IsRequest, MayWarn, ShowsFile, ShowsFiles, ShowsTitled, ShowsUnderName, Warns, WarnsAfter, words_asked};
-ghost use Rattle.wasm_commands.specs.Commands.{Reads, Shows};
-ghost use Rattle.wasm_commands.specs.Systems.{FilesOf, InTurn, IsForwarded, UsesFile};
-ghost use Rattle.wasm_io.specs.Calls.{device_of, writer_device};
+ghost use Rattle.wasm_commands.specs.Runs.{Allots, InTurn};
+ghost use Rattle.wasm_commands.specs.Shows.{Begins, ChooseFor, Dumps, DumpsInput, EndsDump, Heads, IsRequest, MayReread, MayWarn, OpensForNames, ReadsNames, ShowsAll, ShowsFile, TakesNames, WarnsAfter, WritesHeading, has_titles, words_asked};
 
 mod choices;
 mod colored;
@@ -17,13 +14,11 @@ mod plain;
 mod run;
 
 use crate::arguments::Arguments;
-use crate::files::write_heading;
-use crate::messages::{
-    Complaint, complain, refuse_file, refuse_run, report, stop_for_memory, warn_of_missing,
-};
+use crate::files::{Task, use_files};
+use crate::messages::Complaint;
 use crate::options::{Flag, Verb};
 use crate::producers::NAME;
-use crate::runner::{Runner, ended};
+use crate::runner::{Runner, ended, status_of, writes_all};
 use crate::system::System;
 use choices::chosen_by;
 pub use colored::Colored;
@@ -34,17 +29,20 @@ use std::alloc::{AllocError, Global};
 use std::cell::Cell;
 use std::io::Write;
 use wasm_dumper::{Only, Shown, collect_names};
-use wasm_io::{Sink, Source, WriteSink};
+use wasm_io::{ListError, Sink};
 use wasm_output::ItemNames;
+use wasm_streams::Ended;
 
-// What a command shows of each file.
+/// What a command shows of each file.
 #[derive(Clone, Copy)]
-struct Plan<'w> {
-    verb: Verb,
-    // The values of `--section`.
-    words: &'w [&'w str],
-    shown: Shown<'w>,
-    format: Format,
+pub(crate) struct Plan<'w> {
+    pub(crate) verb: Verb,
+    /// The values of `--section`.
+    pub(crate) words: &'w [&'w str],
+    pub(crate) shown: Shown<'w>,
+    pub(crate) format: Format,
+    /// Whether the file's name is written before it.
+    pub(crate) is_titled: bool,
 }
 
 // Returns the first of these flags, which is set if there is none, and the others.
@@ -55,216 +53,6 @@ fn first_flag(flags: &[Cell<bool>]) -> (bool, &[Cell<bool>]) {
     }
 }
 
-// Warns of a choice that chose nothing. Returns the status, which is then 1.
-fn warn_unless_found<E: Sink>(
-    is_found: bool,
-    verb: Verb,
-    name: &str,
-    word: &str,
-    errors: &mut E,
-) -> u8
-    ensures { MayWarn verb name.now word.now dropped
-        (device_of E.taken E.has_failed errors.old errors.new) result }
-{
-    if is_found {
-        return 0;
-    }
-    warn_of_missing(verb, name, word, errors);
-    1
-}
-
-// Warns of the choices that chose nothing of a file. Returns the status, which is 1 if there is one.
-fn warn_of_unfound<E: Sink>(plan: Plan<'_>, name: &str, errors: &mut E) -> u8
-    ensures { Warns plan.entry.verb name.now (texts plan.entry.words.now)
-        (device_of E.taken E.has_failed errors.old errors.new) result }
-{
-    let mut status = 0u8;
-    let mut flags = plan.shown.found;
-    for word in plan.words {
-        let (is_found, later) = first_flag(flags);
-        status = status.max(warn_unless_found(is_found, plan.verb, name, word, errors));
-        flags = later;
-    }
-    status
-}
-
-// Warns of the choices that chose nothing of a file, if it was read to its end. Returns the status, which is then at
-// least 1.
-fn warn_after<E: Sink>(plan: Plan<'_>, name: &str, status: u8, errors: &mut E) -> u8
-    ensures warns { WarnsAfter plan.entry name.now status
-        (device_of E.taken E.has_failed errors.old errors.new) result }
-    ensures least { status ≤ result }
-{
-    if status > 1 {
-        return status;
-    }
-    status.max(warn_of_unfound(plan, name, errors))
-}
-
-// Returns the name that each JSON object has, if there are objects.
-fn title_of(alloc: Global, is_json: bool, name: &str) -> Result<Option<String>, AllocError> {
-    if is_json {
-        Ok(Some(String::from_str(alloc, name)?))
-    } else {
-        Ok(None)
-    }
-}
-
-// Shows an input, with these names if there are any. Returns the status, and the output.
-fn show_input<S: System, R: Source, W: Write, E: Sink>(
-    alloc: Global,
-    plan: Plan<'_>,
-    names: Option<ItemNames>,
-    system: &S,
-    name: &str,
-    input: &mut R,
-    output: WriteSink<W>,
-    errors: &mut E,
-) -> (u8, WriteSink<W>)
-    ensures shows { DumpsIfMemory plan.entry name.now
-        (device_of R.remaining R.has_failed input.old input.new)
-        (writer_device W.contents output result.1)
-        (device_of E.taken E.has_failed errors.old errors.new) result.0 }
-    ensures forwards { IsForwarded result.0 result.1.forwarded }
-{
-    let Ok(file) = title_of(alloc, plan.format.is_json, name) else {
-        return (stop_for_memory(errors), output);
-    };
-    let titles = Titles { file, names };
-    let (how, output) = dump_as(alloc, plan.shown, plan.format, titles, input, output);
-    (report(name, &how, system.causes(), errors), output)
-}
-
-// Shows a file, with these names if there are any. Returns the status, and the output.
-fn show_opened<S: System, W: Write, E: Sink>(
-    alloc: Global,
-    plan: Plan<'_>,
-    names: Option<ItemNames>,
-    system: &S,
-    name: &str,
-    output: WriteSink<W>,
-    errors: &mut E,
-) -> (u8, WriteSink<W>)
-    ensures shows { DumpsFile (FilesOf S.System S.Input.Source system.now) plan.entry name.now
-        (writer_device W.contents output result.1)
-        (device_of E.taken E.has_failed errors.old errors.new) result.0 }
-    ensures forwards { IsForwarded result.0 result.1.forwarded }
-{
-    match system.open(name) {
-        Ok(mut input) => show_input(alloc, plan, names, system, name, &mut input, output, errors),
-        Err(cause) => (refuse_file(name, cause, errors), output),
-    }
-}
-
-// Reads an input for the names of its items, then opens its file again to show it. Returns the status, and the output.
-fn show_again<S: System, R: Source, W: Write, E: Sink>(
-    alloc: Global,
-    plan: Plan<'_>,
-    system: &S,
-    name: &str,
-    input: &mut R,
-    output: WriteSink<W>,
-    errors: &mut E,
-) -> (u8, WriteSink<W>)
-    ensures shows { DumpsAgain (FilesOf S.System S.Input.Source system.now) plan.entry name.now
-        (device_of R.remaining R.has_failed input.old input.new)
-        (writer_device W.contents output result.1)
-        (device_of E.taken E.has_failed errors.old errors.new) result.0 }
-    ensures forwards { IsForwarded result.0 result.1.forwarded }
-{
-    match collect_names(alloc, input) {
-        Ok(names) => show_opened(alloc, plan, Some(names), system, name, output, errors),
-        Err(_) => (stop_for_memory(errors), output),
-    }
-}
-
-// Reads an input for the names of its items, then opens its file again to show it, if the file can be read twice. Returns
-// the status, and the output.
-fn show_if_regular<S: System, R: Source, W: Write, E: Sink>(
-    alloc: Global,
-    plan: Plan<'_>,
-    system: &S,
-    name: &str,
-    input: &mut R,
-    output: WriteSink<W>,
-    errors: &mut E,
-) -> (u8, WriteSink<W>)
-    ensures shows { DumpsTwice (FilesOf S.System S.Input.Source system.now) plan.entry name.now
-        (device_of R.remaining R.has_failed input.old input.new)
-        (writer_device W.contents output result.1)
-        (device_of E.taken E.has_failed errors.old errors.new) result.0 }
-    ensures forwards { IsForwarded result.0 result.1.forwarded }
-{
-    if system.is_regular(name) {
-        show_again(alloc, plan, system, name, input, output, errors)
-    } else {
-        (complain(Complaint::NamesOf(name), errors), output)
-    }
-}
-
-// Reads a file for the names of its items, then again to show it. Returns the status, and the output.
-fn show_file_with_names<S: System, W: Write, E: Sink>(
-    alloc: Global,
-    plan: Plan<'_>,
-    system: &S,
-    name: &str,
-    output: WriteSink<W>,
-    errors: &mut E,
-) -> (u8, WriteSink<W>)
-    ensures shows { UsesFile (FilesOf S.System S.Input.Source system.now)
-        (DumpsTwice (FilesOf S.System S.Input.Source system.now) plan.entry name.now) name.now
-        (writer_device W.contents output result.1)
-        (device_of E.taken E.has_failed errors.old errors.new) result.0 }
-    ensures forwards { IsForwarded result.0 result.1.forwarded }
-{
-    match system.open(name) {
-        Ok(mut input) => show_if_regular(alloc, plan, system, name, &mut input, output, errors),
-        Err(cause) => (refuse_file(name, cause, errors), output),
-    }
-}
-
-// Shows a file with the names of its items. Standard input can't be read twice, so it is not even opened.
-fn show_with_names<S: System, W: Write, E: Sink>(
-    alloc: Global,
-    plan: Plan<'_>,
-    system: &S,
-    name: &str,
-    output: WriteSink<W>,
-    errors: &mut E,
-) -> (u8, WriteSink<W>)
-    ensures shows { DumpsNamed (FilesOf S.System S.Input.Source system.now) plan.entry name.now
-        (writer_device W.contents output result.1)
-        (device_of E.taken E.has_failed errors.old errors.new) result.0 }
-    ensures forwards { IsForwarded result.0 result.1.forwarded }
-{
-    if name == "-" {
-        (complain(Complaint::NamesOf(name), errors), output)
-    } else {
-        show_file_with_names(alloc, plan, system, name, output, errors)
-    }
-}
-
-// Shows a file. Returns the status, and the output.
-fn show_once<S: System, W: Write, E: Sink>(
-    alloc: Global,
-    plan: Plan<'_>,
-    system: &S,
-    name: &str,
-    output: WriteSink<W>,
-    errors: &mut E,
-) -> (u8, WriteSink<W>)
-    ensures shows { Dumps plan.entry.format.is_named (FilesOf S.System S.Input.Source system.now)
-        plan.entry name.now (writer_device W.contents output result.1)
-        (device_of E.taken E.has_failed errors.old errors.new) result.0 }
-    ensures forwards { IsForwarded result.0 result.1.forwarded }
-{
-    if plan.format.is_named {
-        show_with_names(alloc, plan, system, name, output, errors)
-    } else {
-        show_opened(alloc, plan, None, system, name, output, errors)
-    }
-}
-
 // Unsets all flags.
 fn clear(flags: &[Cell<bool>]) {
     for flag in flags {
@@ -272,111 +60,223 @@ fn clear(flags: &[Cell<bool>]) {
     }
 }
 
-// Shows a file. Returns the status, which is at least 1 if a choice chose nothing of it, and the output.
-fn show_file<S: System, W: Write, E: Sink>(
+impl<S: System, W: Write, E: Sink> Runner<S, W, E> {
+    // Writes the name of a file as a line before what is shown of it, if files have titles.
+    fn head(&mut self, is_titled: bool, name: &str) -> Result<(), u8>
+        ensures { Heads is_titled name.now result self.old self.new }
+    {
+        if is_titled {
+            self.write_heading(name)
+        } else {
+            Ok(())
+        }
+    }
+
+    // Writes the name of a file as a line.
+    fn write_heading(&mut self, name: &str) -> Result<(), u8>
+        ensures { WritesHeading name.now result self.old self.new }
+    {
+        if writes_all(&mut self.output, &[name.as_bytes(), b":\n"]) {
+            return Ok(());
+        }
+        Err(self.fail("-", ListError::Output))
+    }
+
+    // Reads the names of a file's items from an input, if the file can be read again.
+    fn names_in(
+        &mut self,
+        alloc: Global,
+        name: &str,
+        input: &mut S::Input,
+    ) -> Result<Option<ItemNames>, u8>
+        ensures { MayReread S.System name.now result self.old self.new }
+    {
+        if !self.is_regular(name) {
+            return Err(self.complain(Complaint::NamesOf(name)));
+        }
+        match collect_names(alloc, input) {
+            Ok(names) => Ok(Some(names)),
+            Err(_) => Err(self.out_of_memory()),
+        }
+    }
+
+    // Opens a file and reads the names of its items.
+    fn names_of(&mut self, alloc: Global, name: &str) -> Result<Option<ItemNames>, u8>
+        ensures { OpensForNames S.System name.now result self.old self.new }
+    {
+        let mut input = self.open(name)?;
+        self.names_in(alloc, name, &mut input)
+    }
+
+    // Reads the names of a file's items. Standard input can't be read twice, so it is not even opened.
+    fn read_names(&mut self, alloc: Global, name: &str) -> Result<Option<ItemNames>, u8>
+        ensures { ReadsNames S.System name.now result self.old self.new }
+    {
+        if name == "-" {
+            Err(self.complain(Complaint::NamesOf(name)))
+        } else {
+            self.names_of(alloc, name)
+        }
+    }
+
+    // Reads the names of a file's items, if names are shown.
+    fn take_names(
+        &mut self,
+        alloc: Global,
+        is_named: bool,
+        name: &str,
+    ) -> Result<Option<ItemNames>, u8>
+        ensures { TakesNames S.System is_named name.now
+            result self.old self.new }
+    {
+        if is_named {
+            self.read_names(alloc, name)
+        } else {
+            Ok(None)
+        }
+    }
+
+    // Opens a file, and makes what is said of it besides its bytes, for which it may be read before.
+    fn begin(&mut self, alloc: Global, format: Format, name: &str) -> Result<(S::Input, Titles), u8>
+        ensures { Begins S.System format.is_named name.now
+            result self.old self.new }
+    {
+        let names = self.take_names(alloc, format.is_named, name)?;
+        let input = self.open(name)?;
+        let file = self.title(alloc, format.is_json, name)?;
+        Ok((input, Titles { file, names }))
+    }
+
+    // Returns the name that each JSON object has, if there are objects.
+    fn title(&mut self, alloc: Global, is_json: bool, name: &str) -> Result<Option<String>, u8>
+        ensures { Allots result self.old self.new }
+    {
+        if is_json {
+            let title = self.allocated(String::from_str(alloc, name))?;
+            Ok(Some(title))
+        } else {
+            Ok(None)
+        }
+    }
+
+    // Ends a command after a dump, which has shown a fault of the stream.
+    fn end_dump(&mut self, name: &str, how: Result<Ended, ListError>) -> Result<(), u8>
+        ensures { EndsDump name.now how result self.old self.new }
+    {
+        match how {
+            Ok(Ended::End) => Ok(()),
+            Ok(Ended::Fault(_)) => Err(1),
+            Err(why) => Err(self.fail(name, why)),
+        }
+    }
+
+    // Warns of a choice that chose nothing.
+    fn warn_unless_found(
+        &mut self,
+        is_found: bool,
+        verb: Verb,
+        name: &str,
+        word: &str,
+    ) -> Result<(), u8>
+        ensures { MayWarn verb name.now word.now result self.old self.new }
+    {
+        if is_found {
+            return Ok(());
+        }
+        Err(self.miss(verb, name, word))
+    }
+
+    // Warns of the choices that chose nothing of a file. Returns the status, which is 1 if there is one.
+    fn warn_of_unfound(&mut self, plan: Plan<'_>, name: &str) -> u8
+        ensures { InTurn (MayWarn plan.entry.verb name.now) (texts plan.entry.words.now)
+            result self.old self.new }
+    {
+        let mut status = 0u8;
+        let mut flags = plan.shown.found;
+        for word in plan.words {
+            let (is_found, later) = first_flag(flags);
+            let ended = self.warn_unless_found(is_found, plan.verb, name, word);
+            status = status.max(status_of(ended));
+            flags = later;
+        }
+        status
+    }
+
+    // Warns of the choices that chose nothing of a file, if it was read to its end. Returns the greater status.
+    fn warn_after(&mut self, plan: Plan<'_>, name: &str, status: u8) -> u8
+        ensures { WarnsAfter plan.entry name.now status result self.old self.new }
+    {
+        if status > 1 {
+            return status;
+        }
+        status.max(self.warn_of_unfound(plan, name))
+    }
+}
+
+// Dumps an input to the output. Returns how the command ends, and the run.
+fn dump_input<S: System, W: Write, E: Sink>(
     alloc: Global,
     plan: Plan<'_>,
-    system: &S,
     name: &str,
-    output: WriteSink<W>,
-    errors: &mut E,
-) -> (u8, WriteSink<W>)
-    ensures shows { ShowsFile (FilesOf S.System S.Input.Source system.now) plan.entry name.now
-        (writer_device W.contents output result.1)
-        (device_of E.taken E.has_failed errors.old errors.new) result.0 }
-    ensures forwards { IsForwarded result.0 result.1.forwarded }
+    begun: (S::Input, Titles),
+    runner: Runner<S, W, E>,
+) -> (Result<(), u8>, Runner<S, W, E>)
+    ensures { DumpsInput S.Input.Source plan.entry name.now begun.0
+        result.0 runner result.1 }
+{
+    let (mut input, titles) = begun;
+    let (system, output, errors) = runner.into_parts();
+    let (how, output) = dump_as(alloc, plan.shown, plan.format, titles, &mut input, output);
+    let mut runner = Runner::new(system, output, errors);
+    (runner.end_dump(name, how), runner)
+}
+
+// Opens a file and dumps it. Returns how the command ends, and the run.
+fn dump_file<S: System, W: Write, E: Sink>(
+    alloc: Global,
+    plan: Plan<'_>,
+    name: &str,
+    mut runner: Runner<S, W, E>,
+) -> (Result<(), u8>, Runner<S, W, E>)
+    ensures { Dumps S.System S.Input.Source plan.entry name.now
+        result.0 runner result.1 }
+{
+    match runner.begin(alloc, plan.format, name) {
+        Ok(begun) => dump_input(alloc, plan, name, begun, runner),
+        Err(status) => (Err(status), runner),
+    }
+}
+
+// Dumps a file, and warns of the choices that chose nothing of it. Returns how the command ends, and the run.
+fn show_all<S: System, W: Write, E: Sink>(
+    alloc: Global,
+    plan: Plan<'_>,
+    name: &str,
+    runner: Runner<S, W, E>,
+) -> (Result<(), u8>, Runner<S, W, E>)
+    ensures { ShowsAll S.System S.Input.Source plan.entry name.now
+        result.0 runner result.1 }
 {
     clear(plan.shown.found);
-    let (status, output) = show_once(alloc, plan, system, name, output, errors);
-    (warn_after(plan, name, status, errors), output)
+    let (dumped, mut runner) = dump_file(alloc, plan, name, runner);
+    let status = runner.warn_after(plan, name, status_of(dumped));
+    (ended(status), runner)
 }
 
-// Writes the name of a file as a line, then shows it. Returns the status, and the output.
-fn show_under_name<S: System, W: Write, E: Sink>(
+/// Shows a file, after its name if files have titles. Returns how the command ends, and the run.
+pub(crate) fn show_file<S: System, W: Write, E: Sink>(
     alloc: Global,
     plan: Plan<'_>,
-    system: &S,
     name: &str,
-    output: WriteSink<W>,
-    errors: &mut E,
-) -> (u8, WriteSink<W>)
-    ensures shows { ShowsUnderName (FilesOf S.System S.Input.Source system.now) plan.entry name.now
-        (writer_device W.contents output result.1)
-        (device_of E.taken E.has_failed errors.old errors.new) result.0 }
-    ensures forwards { IsForwarded result.0 result.1.forwarded }
+    mut runner: Runner<S, W, E>,
+) -> (Result<(), u8>, Runner<S, W, E>)
+    ensures { ShowsFile S.System S.Input.Source plan.entry name.now
+        result.0 runner result.1 }
 {
-    let mut output = output;
-    match write_heading(name, &mut output) {
-        Ok(()) => show_file(alloc, plan, system, name, output, errors),
-        Err(why) => (refuse_run(name, why, system.causes(), errors), output),
+    match runner.head(plan.is_titled, name) {
+        Ok(()) => show_all(alloc, plan, name, runner),
+        Err(status) => (Err(status), runner),
     }
-}
-
-// Shows one of several files: after its name, unless each object has that. Returns the status, and the output.
-fn show_titled<S: System, W: Write, E: Sink>(
-    alloc: Global,
-    plan: Plan<'_>,
-    system: &S,
-    name: &str,
-    output: WriteSink<W>,
-    errors: &mut E,
-) -> (u8, WriteSink<W>)
-    ensures shows { ShowsTitled plan.entry.format.is_json (FilesOf S.System S.Input.Source system.now)
-        plan.entry name.now (writer_device W.contents output result.1)
-        (device_of E.taken E.has_failed errors.old errors.new) result.0 }
-    ensures forwards { IsForwarded result.0 result.1.forwarded }
-{
-    if plan.format.is_json {
-        show_file(alloc, plan, system, name, output, errors)
-    } else {
-        show_under_name(alloc, plan, system, name, output, errors)
-    }
-}
-
-// Shows files, or standard input if there are none. Returns the greatest status,
-// and the output.
-fn show_files<S: System, W: Write, E: Sink>(
-    alloc: Global,
-    plan: Plan<'_>,
-    system: &S,
-    names: &[&str],
-    output: WriteSink<W>,
-    errors: &mut E,
-) -> (u8, WriteSink<W>)
-    ensures shows { ShowsFiles (FilesOf S.System S.Input.Source system.now) plan.entry (texts names.now)
-        (writer_device W.contents output result.1)
-        (device_of E.taken E.has_failed errors.old errors.new) result.0 }
-    ensures forwards { IsForwarded result.0 result.1.forwarded }
-{
-    match names {
-        [] => show_file(alloc, plan, system, "-", output, errors),
-        [name] => show_file(alloc, plan, system, name, output, errors),
-        _ => show_several(alloc, plan, system, names, output, errors),
-    }
-}
-
-// Shows several files. Returns the greatest status, and the output.
-fn show_several<S: System, W: Write, E: Sink>(
-    alloc: Global,
-    plan: Plan<'_>,
-    system: &S,
-    names: &[&str],
-    output: WriteSink<W>,
-    errors: &mut E,
-) -> (u8, WriteSink<W>)
-    ensures shows { InTurn (ShowsTitled plan.entry.format.is_json (FilesOf S.System S.Input.Source system.now) plan.entry)
-        (texts names.now) (writer_device W.contents output result.1)
-        (device_of E.taken E.has_failed errors.old errors.new) result.0 }
-    ensures forwards { 0 < length names.now → IsForwarded result.0 result.1.forwarded }
-{
-    let mut status = 0u8;
-    let mut output = output;
-    for name in names {
-        let (one, after) = show_titled(alloc, plan, system, name, output, errors);
-        output = after;
-        status = status.max(one);
-    }
-    (status, output)
 }
 
 // Returns the words that choose sections: the values of `--section`, or the name of the section that `producers` shows.
@@ -436,19 +336,11 @@ fn request_of<'a>(
     })
 }
 
-// Shows what was asked for. Returns how that ended, and the run.
-fn show_as<S: System, W: Write, E: Sink>(
-    alloc: Global,
-    plan: Plan<'_>,
-    names: &[&str],
-    runner: Runner<S, W, E>,
-) -> (Result<(), u8>, Runner<S, W, E>)
-    ensures { Reads (ShowsFiles (FilesOf S.System S.Input.Source runner.system) plan.entry
-        (texts names.now)) result.0 runner result.1 }
+// Returns whether each file's name is written before what is shown of it: of several, unless JSON has the names.
+fn has_titles(format: Format, names: &[&str]) -> bool
+    ensures { result ≡ has_titles format (texts names.now) }
 {
-    let (system, output, mut errors) = runner.into_parts();
-    let (status, output) = show_files(alloc, plan, &system, names, output, &mut errors);
-    (ended(status), Runner::new(system, output, errors))
+    !format.is_json && names.len() > 1
 }
 
 /// Runs `list`, `dump` or `producers`. Returns how it ended, and the run.
@@ -458,7 +350,7 @@ pub(crate) fn show<S: System, W: Write, E: Sink>(
     arguments: &Arguments<'_>,
     mut runner: Runner<S, W, E>,
 ) -> (Result<(), u8>, Runner<S, W, E>)
-    ensures { Shows S.System S.Input.Source S.Output.Sink verb (reads_of arguments.now)
+    ensures { Shows S.System S.Input.Source verb (reads_of arguments.now)
         result.0 runner result.1 }
 {
     let format = match format_of(verb, arguments, runner.is_terminal()) {
@@ -478,6 +370,7 @@ pub(crate) fn show<S: System, W: Write, E: Sink>(
             found: request.found.as_slice(),
         },
         format,
+        is_titled: has_titles(format, request.names.as_slice()),
     };
-    show_as(alloc, plan, request.names.as_slice(), runner)
+    use_files(alloc, Task::Show(plan), request.names.as_slice(), runner)
 }

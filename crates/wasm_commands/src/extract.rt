@@ -1,15 +1,16 @@
 // The command `extract`: writes the data of a custom section.
 ghost use Rattle.std.specs.Prelude.{◌≡◌, None, option_map};
-ghost use Rattle.wasm_commands.specs.ArgumentLists.{last_value};
+ghost use Rattle.wasm_commands.specs.ArgumentLists.{last_value, operands_in};
 ghost use Rattle.wasm_commands.specs.Finding.{FindsSection, IsNamedIn};
 ghost use Rattle.wasm_commands.specs.Parsing.{reads_of, text_if_any, texts};
-ghost use Rattle.wasm_commands.specs.RewriteCommands.{Extracts, ExtractsFrom, Skips, TakesIndex, TakesSection, value_text};
+ghost use Rattle.wasm_commands.specs.Rewrites.{route};
+ghost use Rattle.wasm_commands.specs.RewriteCommands.{Extracts, ExtractsFrom, Skips, TakesIndex, TakesNamed, TakesSection, value_text};
 ghost use Rattle.wasm_commands.specs.declared.options.Flag.TheVariants as option;
 
 use crate::arguments::Arguments;
 use crate::messages::Complaint;
 use crate::options::{Flag, Verb};
-use crate::rewriting::target_of;
+use crate::rewriting::{Way, way_from};
 use crate::runner::Runner;
 use crate::system::System;
 use std::alloc::Global;
@@ -87,8 +88,20 @@ fn word_of<'a>(value: Option<Option<&'a str>>) -> &'a str
 
 impl<S: System, W: Write, E: Sink> Runner<S, W, E> {
     // Returns the name of the section, and the file: standard input if there is none.
-    fn wanted_of<'a>(&mut self, operands: &[&'a str]) -> Result<(&'a str, &'a str), u8>
-        ensures { TakesSection (texts operands.now) result self.old self.new }
+    fn wanted_of<'a>(
+        &mut self,
+        alloc: Global,
+        arguments: &Arguments<'a>,
+    ) -> Result<(&'a str, &'a str), u8>
+        ensures { TakesSection (operands_in (reads_of arguments.now)) result self.old self.new }
+    {
+        let operands = self.operands(alloc, arguments)?;
+        self.wanted_in(&operands)
+    }
+
+    // Returns the first of these operands, and the second one, or standard input if there is none.
+    fn wanted_in<'a>(&mut self, operands: &[&'a str]) -> Result<(&'a str, &'a str), u8>
+        ensures { TakesNamed (texts operands.now) result self.old self.new }
     {
         match operands {
             [] => Err(self.complain(Complaint::Few(Verb::Extract, "NAME"))),
@@ -119,16 +132,15 @@ impl<S: System, W: Write, E: Sink> Runner<S, W, E> {
         alloc: Global,
         bytes: &[u8],
         wanted: Wanted<'_>,
-        name: &str,
-        target: Option<&str>,
+        way: Way<'_>,
     ) -> Result<(), u8>
-        ensures { ExtractsFrom S.System S.Input.Source S.Output.Sink (text_if_any target.entry)
-            wanted.entry.name.now wanted.entry.before name.now bytes.now result self.old self.new }
+        ensures { ExtractsFrom S.System S.Output.Sink (route way.entry) wanted.entry bytes.now
+            result self.old self.new }
     {
         match find(bytes, wanted) {
-            Ok(Some(section)) => self.write_to(alloc, &[section.data()], name, target),
-            Ok(None) => Err(self.miss(Verb::Extract, name, wanted.name)),
-            Err(error) => Err(self.report_fault(name, &error)),
+            Ok(Some(section)) => self.write_to(alloc, &[section.data()], way),
+            Ok(None) => Err(self.miss(Verb::Extract, way.name, wanted.name)),
+            Err(error) => Err(self.report_fault(way.name, &error)),
         }
     }
 }
@@ -150,13 +162,12 @@ pub(crate) fn extract<S: System, W: Write, E: Sink>(
     ensures { Extracts S.System S.Input.Source S.Output.Sink (reads_of arguments.now)
         result runner.old runner.new }
 {
-    let operands = runner.allocated(arguments.operands(alloc))?;
-    let (wanted, name) = runner.wanted_of(&operands)?;
+    let (wanted, name) = runner.wanted_of(alloc, arguments)?;
     let before = runner.skips_of(arguments)?;
     let bytes = runner.hold(alloc, name)?;
     let wanted = Wanted {
         name: wanted,
         before,
     };
-    runner.extract_from(alloc, &bytes, wanted, name, target_of(arguments))
+    runner.extract_from(alloc, &bytes, wanted, way_from(name, arguments))
 }

@@ -1,5 +1,5 @@
-//! The commands of the program `pulleynavy`, over any files and devices: `list`, `dump`, `check`,
-//! `strip`, `extract`, `add` and `help`.
+//! The commands of the program `pulleynavy`, over any files and devices: `list`, `dump`, `check`, `strip`, `extract`,
+//! `add`, `producers` and `help`.
 #![tactic(auto)]
 
 mod add;

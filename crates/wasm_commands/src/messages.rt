@@ -1,21 +1,18 @@
 // What the program says on standard error.
 ghost use Rattle.std.specs.Prelude.{◌≡◌, Some, codes};
+ghost use Rattle.wasm_base.specs.FaultAt.{fault_at};
 ghost use Rattle.wasm_base.specs.Message.{number_text};
-ghost use Rattle.wasm_commands.specs.Messages.{Reports, StopsAt, command_text, complaint_text, failure_text, fault_line, file_text, missing_text, name_shown, reason_if_any, refusal_text};
+ghost use Rattle.wasm_commands.specs.Messages.{SaysTo, command_text, complaint_text, failure_text, fault_line, fault_text, file_text, missing_text, name_shown, reason_if_any, refusal_text};
 ghost use Rattle.wasm_commands.specs.Messages.{about_word, begins_with_digit, hint_for, hint_unless, no_value_text, values_of, wrong_value_text};
 ghost use Rattle.wasm_commands.specs.Reasons.{reason_of};
-ghost use Rattle.wasm_console.specs.Endings.{status_for};
-ghost use Rattle.wasm_io.specs.Calls.{device_of};
-ghost use Rattle.wasm_io.specs.Messages.{Says};
 
 use crate::arguments::Refusal;
 use crate::options::Verb;
 use crate::reasons::{Cause, words_if_any};
 use wasm_base::Error;
-use wasm_console::{say, status_of};
+use wasm_console::say;
 use wasm_grammar::section_named;
 use wasm_io::{Base, ListError, Sink, write_number, write_offset, write_word};
-use wasm_streams::Ended;
 
 /// Why the devices of a run failed, as far as they said so.
 #[derive(Clone, Copy)]
@@ -38,8 +35,7 @@ pub(crate) fn shown_name(name: &str) -> &str
 
 // Says why a file or device can't be used.
 fn say_why<'a, E: Sink>(name: &'a str, words: &'a [u8], errors: &mut E)
-    ensures { Says (device_of E.taken E.has_failed errors.old errors.new)
-        (file_text name.now words.now) }
+    ensures { SaysTo E.Sink errors.old errors.new (file_text name.now words.now) }
 {
     say(
         errors,
@@ -55,8 +51,7 @@ fn say_why<'a, E: Sink>(name: &'a str, words: &'a [u8], errors: &mut E)
 
 // Says why a device failed, if that is known.
 fn say_cause<E: Sink>(name: &str, cause: Option<Cause>, errors: &mut E)
-    ensures { Says (device_of E.taken E.has_failed errors.old errors.new)
-        (file_text name.now (reason_if_any cause)) }
+    ensures { SaysTo E.Sink errors.old errors.new (file_text name.now (reason_if_any cause)) }
 {
     let words = words_if_any(cause);
     say_why(name, words, errors);
@@ -65,8 +60,7 @@ fn say_cause<E: Sink>(name: &str, cause: Option<Cause>, errors: &mut E)
 /// Says why a file can't be opened, read or written. Returns the exit status 3.
 pub(crate) fn refuse_file<E: Sink>(name: &str, cause: Cause, errors: &mut E) -> u8
     ensures status { result ≡ 3 }
-    ensures says { Says (device_of E.taken E.has_failed errors.old errors.new)
-        (file_text name.now (reason_of cause)) }
+    ensures says { SaysTo E.Sink errors.old errors.new (file_text name.now (reason_of cause)) }
 {
     say_why(name, cause.words(), errors);
     3
@@ -74,9 +68,10 @@ pub(crate) fn refuse_file<E: Sink>(name: &str, cause: Cause, errors: &mut E) -> 
 
 /// Says why a run over the input with this name failed. Returns the exit status 3.
 pub(crate) fn refuse_run<E: Sink>(name: &str, why: ListError, causes: Causes, errors: &mut E) -> u8
+    // Proved: the message and the status of a run that failed name the file or device, and the
+    //   system's reason [`refuse_run` (`failure_text`), `refuse_file`, `refuse_target`]
     ensures status { result ≡ 3 }
-    ensures says { Says (device_of E.taken E.has_failed errors.old errors.new)
-        (failure_text name.now why causes) }
+    ensures says { SaysTo E.Sink errors.old errors.new (failure_text name.now why causes) }
 {
     match why {
         ListError::Input => say_cause(shown_name(name), causes.input, errors),
@@ -89,8 +84,7 @@ pub(crate) fn refuse_run<E: Sink>(name: &str, why: ListError, causes: Causes, er
 /// Says that memory ran out. Returns the exit status 3.
 pub(crate) fn stop_for_memory<E: Sink>(errors: &mut E) -> u8
     ensures status { result ≡ 3 }
-    ensures says { Says (device_of E.taken E.has_failed errors.old errors.new)
-        (codes "pulleynavy: out of memory\n") }
+    ensures says { SaysTo E.Sink errors.old errors.new (codes "pulleynavy: out of memory\n") }
 {
     say(errors, &[b"pulleynavy: out of memory\n".as_slice()]);
     3
@@ -99,7 +93,7 @@ pub(crate) fn stop_for_memory<E: Sink>(errors: &mut E) -> u8
 /// Says why a file could not be written. Returns the exit status 3.
 pub(crate) fn refuse_target<E: Sink>(name: &str, causes: Causes, errors: &mut E) -> u8
     ensures status { result ≡ 3 }
-    ensures says { Says (device_of E.taken E.has_failed errors.old errors.new)
+    ensures says { SaysTo E.Sink errors.old errors.new
         (file_text name.now (reason_if_any causes.output)) }
 {
     say_cause(name, causes.output, errors);
@@ -109,8 +103,9 @@ pub(crate) fn refuse_target<E: Sink>(name: &str, causes: Causes, errors: &mut E)
 /// Says at which fault a file stops, as `check` says it. Returns the exit status 1.
 pub(crate) fn report_fault<E: Sink>(name: &str, error: &Error, errors: &mut E) -> u8
     // Proved: a fault is reported with the program, the file, the offset, the message and the number
-    //   [`report_fault` (`StopsAt`, `fault_text`)]
-    ensures { StopsAt name.now error.now (device_of E.taken E.has_failed errors.old errors.new) result }
+    //   [`report_fault` (`fault_text`)]
+    ensures status { result ≡ 1 }
+    ensures says { SaysTo E.Sink errors.old errors.new (fault_text name.now (fault_at error.now)) }
 {
     let mut bytes = [0u8; 20];
     let end = write_offset(&mut bytes, 0, Base::Hexadecimal, error.offset());
@@ -130,7 +125,7 @@ fn say_fault<'a, E: Sink>(
     after: &'a [u8],
     errors: &mut E,
 )
-    ensures { Says (device_of E.taken E.has_failed errors.old errors.new)
+    ensures { SaysTo E.Sink errors.old errors.new
         (fault_line name.now offset.now message.now after.now) }
 {
     say(
@@ -150,7 +145,7 @@ fn say_fault<'a, E: Sink>(
 
 // Says a fault with its number.
 fn say_number<E: Sink>(name: &str, offset: &[u8], message: &[u8], number: u64, errors: &mut E)
-    ensures { Says (device_of E.taken E.has_failed errors.old errors.new)
+    ensures { SaysTo E.Sink errors.old errors.new
         (fault_line name.now offset.now message.now (number_text (Some number))) }
 {
     let mut bytes = [0u8; 22];
@@ -189,8 +184,7 @@ fn hint_for<'a>(verb: Verb, word: &str) -> &'a [u8]
 
 /// Says that a section was not found in a file.
 pub(crate) fn warn_of_missing<E: Sink>(verb: Verb, name: &str, word: &str, errors: &mut E)
-    ensures says { Says (device_of E.taken E.has_failed errors.old errors.new)
-        (missing_text verb name.now word.now) }
+    ensures says { SaysTo E.Sink errors.old errors.new (missing_text verb name.now word.now) }
 {
     say(
         errors,
@@ -205,25 +199,6 @@ pub(crate) fn warn_of_missing<E: Sink>(verb: Verb, name: &str, word: &str, error
             b"\n",
         ],
     );
-}
-
-/// Returns the exit status of a run over a stream. If it failed, says why.
-pub(crate) fn report<E: Sink>(
-    name: &str,
-    how: &Result<Ended, ListError>,
-    causes: Causes,
-    errors: &mut E,
-) -> u8
-    // Proved: the message and the status of a run that failed name the file or device, and the
-    //   system's reason [`report` (`Reports`), `refuse_file`, `refuse_run`, `refuse_target`]
-    ensures status { result ≡ status_for how.now }
-    ensures reports { Reports name.now how.now causes
-        (device_of E.taken E.has_failed errors.old errors.new) }
-{
-    match how {
-        Ok(_) => status_of(how),
-        Err(why) => refuse_run(name, *why, causes, errors),
-    }
 }
 
 // The words before a message about the arguments of a command.
@@ -280,7 +255,7 @@ fn complain_of<'a, E: Sink>(
     after: &'a [u8],
     errors: &mut E,
 )
-    ensures says { Says (device_of E.taken E.has_failed errors.old errors.new)
+    ensures says { SaysTo E.Sink errors.old errors.new
         (about_word verb before.now word.now after.now) }
 {
     let words = command_words(verb);
@@ -315,8 +290,7 @@ fn values_of<'a>(option: &str) -> &'a [u8]
 
 // Says that an option needs a value, and which ones it takes.
 fn complain_of_no_value<E: Sink>(verb: Verb, option: &str, errors: &mut E)
-    ensures says { Says (device_of E.taken E.has_failed errors.old errors.new)
-        (no_value_text verb option.now) }
+    ensures says { SaysTo E.Sink errors.old errors.new (no_value_text verb option.now) }
 {
     let words = command_words(verb);
     say(
@@ -336,7 +310,7 @@ fn complain_of_no_value<E: Sink>(verb: Verb, option: &str, errors: &mut E)
 
 // Says that an option does not take a value, and which ones it takes.
 fn complain_of_value<E: Sink>(verb: Verb, option: &str, value: &str, errors: &mut E)
-    ensures says { Says (device_of E.taken E.has_failed errors.old errors.new)
+    ensures says { SaysTo E.Sink errors.old errors.new
         (wrong_value_text verb option.now value.now) }
 {
     say(
@@ -356,8 +330,7 @@ fn complain_of_value<E: Sink>(verb: Verb, option: &str, value: &str, errors: &mu
 
 // Says what is wrong with an option.
 fn complain_of_option<E: Sink>(verb: Verb, refusal: Refusal<'_>, errors: &mut E)
-    ensures says { Says (device_of E.taken E.has_failed errors.old errors.new)
-        (refusal_text verb refusal.entry) }
+    ensures says { SaysTo E.Sink errors.old errors.new (refusal_text verb refusal.entry) }
 {
     match refusal {
         Refusal::UnknownOption(word) => complain_of(verb, b"unknown option '", word, b"'", errors),
@@ -373,8 +346,7 @@ pub(crate) fn complain<E: Sink>(complaint: Complaint<'_>, errors: &mut E) -> u8
     // Proved: wrong arguments give the status 2, and the message names the one that is wrong
     //   [`complain` (`complaint_text`)]
     ensures status { result ≡ 2 }
-    ensures says { Says (device_of E.taken E.has_failed errors.old errors.new)
-        (complaint_text complaint.entry) }
+    ensures says { SaysTo E.Sink errors.old errors.new (complaint_text complaint.entry) }
 {
     match complaint {
         Complaint::Argument(verb, refusal) => complain_of_option(verb, refusal, errors),

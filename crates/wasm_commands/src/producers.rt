@@ -2,8 +2,9 @@
 ghost use Rattle.std.specs.Prelude.{◌≡◌, ◌<◌, ◌^◌, ◌++◌, IfOk, OnOk, is_some};
 ghost use Rattle.wasm_commands.specs.ArgumentLists.{has_option, values_in};
 ghost use Rattle.wasm_commands.specs.Commands.{Produces, ProducersBy, ShowsProducers};
-ghost use Rattle.wasm_commands.specs.Parsing.{reads_of, text_if_any, texts};
-ghost use Rattle.wasm_commands.specs.RewriteCommands.{FindsChange, SetsHeld, SetsIn, SetsProducers, SetsSection, TakesSettings, WritesSet, is_setting, no_setting, wrong_setting};
+ghost use Rattle.wasm_commands.specs.Parsing.{reads_of, texts};
+ghost use Rattle.wasm_commands.specs.Rewrites.{route};
+ghost use Rattle.wasm_commands.specs.RewriteCommands.{AreSettings, FindsChange, SetsHeld, SetsIn, SetsProducers, SetsSection, TakesSettings, WritesSet, is_setting, no_setting, wrong_setting};
 ghost use Rattle.wasm_commands.specs.declared.options.Flag.TheVariants as option;
 ghost use Rattle.wasm_edits.specs.Encoded.{Fits, encoded, encoded_section};
 
@@ -13,7 +14,7 @@ use crate::dump::show;
 use crate::extract::{Wanted, find};
 use crate::messages::Complaint;
 use crate::options::{Flag, Verb};
-use crate::rewriting::target_of;
+use crate::rewriting::{Way, way_from};
 use crate::runner::Runner;
 use crate::system::System;
 use std::alloc::{AllocError, Global};
@@ -228,12 +229,24 @@ fn new_data(
 
 // Returns what `--set` sets.
 fn settings_of<'a, S: System, W: Write, E: Sink>(
+    alloc: Global,
+    words: &[&'a str],
+    runner: &mut Runner<S, W, E>,
+) -> Result<Vec<Setting<'a>>, u8>
+    ensures { TakesSettings (texts words.now) result runner.old runner.new }
+{
+    let parsed = runner.allocated(parse_settings(alloc, words))?;
+    settings_in(words, parsed, runner)
+}
+
+// Returns what was parsed, unless a word was refused.
+fn settings_in<'a, S: System, W: Write, E: Sink>(
     words: &[&'a str],
     parsed: Result<Vec<Setting<'a>>, &'a str>,
     runner: &mut Runner<S, W, E>,
 ) -> Result<Vec<Setting<'a>>, u8>
     requires { wrong_setting parsed ≡ no_setting (texts words.now) }
-    ensures { TakesSettings (texts words.now) result runner.old runner.new }
+    ensures { AreSettings (texts words.now) result runner.old runner.new }
 {
     match parsed {
         Ok(settings) => Ok(settings),
@@ -246,21 +259,19 @@ fn write_between<S: System, W: Write, E: Sink>(
     alloc: Global,
     new: NewSection<'_>,
     around: Around<'_>,
-    name: &str,
-    target: Option<&str>,
+    way: Way<'_>,
     runner: &mut Runner<S, W, E>,
 ) -> Result<(), u8>
     requires { Fits new }
-    ensures { WritesSet S.System S.Input.Source S.Output.Sink (text_if_any target.entry)
-        (around.entry.before.now ++ (encoded_section new.entry ++ around.entry.after.now)) name.now
+    ensures { WritesSet S.System S.Output.Sink (route way.entry)
+        (around.entry.before.now ++ (encoded_section new.entry ++ around.entry.after.now))
         result runner.old runner.new }
 {
     let section = runner.encoded(alloc, new)?;
     runner.write_to(
         alloc,
         &[around.before, section.as_slice(), around.after],
-        name,
-        target,
+        way,
     )
 }
 
@@ -269,26 +280,25 @@ fn write_set<S: System, W: Write, E: Sink>(
     alloc: Global,
     new: NewSection<'_>,
     bytes: &[u8],
-    name: &str,
-    target: Option<&str>,
+    way: Way<'_>,
     runner: &mut Runner<S, W, E>,
 ) -> Result<(), u8>
     requires { Fits new }
-    ensures { SetsIn S.System S.Input.Source S.Output.Sink (text_if_any target.entry)
-        new.entry name.now bytes.now result runner.old runner.new }
+    ensures { SetsIn S.System S.Output.Sink (route way.entry)
+        new.entry bytes.now result runner.old runner.new }
 {
     // A slice is shorter than 2^64 bytes, which the proof wants to know.
     let _length = bytes.len();
     match find_first(bytes, new.name) {
-        Ok(Some(around)) => write_between(alloc, new, around, name, target, runner),
+        Ok(Some(around)) => write_between(alloc, new, around, way, runner),
         Ok(None) => {
             let around = Around {
                 before: bytes,
                 after: b"",
             };
-            write_between(alloc, new, around, name, target, runner)
+            write_between(alloc, new, around, way, runner)
         }
-        Err(error) => Err(runner.report_fault(name, &error)),
+        Err(error) => Err(runner.report_fault(way.name, &error)),
     }
 }
 
@@ -297,16 +307,15 @@ fn write_new<S: System, W: Write, E: Sink>(
     alloc: Global,
     data: &[u8],
     bytes: &[u8],
-    name: &str,
-    target: Option<&str>,
+    way: Way<'_>,
     runner: &mut Runner<S, W, E>,
 ) -> Result<(), u8>
-    ensures { SetsSection S.System S.Input.Source S.Output.Sink (text_if_any target.entry)
-        name.now bytes.now result runner.old runner.new }
+    ensures { SetsSection S.System S.Output.Sink (route way.entry)
+        bytes.now result runner.old runner.new }
 {
     let new = NewSection { name: NAME, data };
     if new.fits() {
-        return write_set(alloc, new, bytes, name, target, runner);
+        return write_set(alloc, new, bytes, way, runner);
     }
     Err(runner.complain(Complaint::TooLarge(Verb::Producers, NAME)))
 }
@@ -316,41 +325,37 @@ fn change<S: System, W: Write, E: Sink>(
     alloc: Global,
     settings: &[Setting<'_>],
     bytes: &[u8],
-    name: &str,
-    target: Option<&str>,
+    way: Way<'_>,
     runner: &mut Runner<S, W, E>,
 ) -> Result<(), u8>
-    ensures { SetsHeld S.System S.Input.Source S.Output.Sink (text_if_any target.entry)
-        name.now bytes.now result runner.old runner.new }
+    ensures { SetsHeld S.System S.Output.Sink (route way.entry)
+        bytes.now result runner.old runner.new }
 {
     let changed = runner.allocated(new_data(alloc, bytes, settings))?;
-    let data = runner.sound(name, changed)?;
-    write_new(alloc, &data, bytes, name, target, runner)
+    let data = runner.sound(way.name, changed)?;
+    write_new(alloc, &data, bytes, way, runner)
 }
 
 // Runs `producers` with these values of `--set`.
 fn set_all<S: System, W: Write, E: Sink>(
     alloc: Global,
     words: &[&str],
-    arguments: &Arguments<'_>,
+    args: &Arguments<'_>,
     runner: &mut Runner<S, W, E>,
 ) -> Result<(), u8>
-    requires { texts words.now ≡ values_in option.Set (reads_of arguments.now) }
+    requires { texts words.now ≡ values_in option.Set (reads_of args.now) }
     // Proved: `producers --set` reads the file that is named, or standard input, and writes it with
     //   a new `producers` section in place of the first that it has, or at the end, to the output or to
     //   the file of `--output`, which is replaced only if all was written; or it says why not. All other
     //   bytes stay, and no other file is created or replaced. What the new section holds is not stated
     //   [`set_all` (`SetsProducers`: `ReplacesFirst`)]
-    ensures { SetsProducers S.System S.Input.Source S.Output.Sink (reads_of arguments.now)
+    ensures { SetsProducers S.System S.Input.Source S.Output.Sink (reads_of args.now)
         result runner.old runner.new }
 {
-    let parsed = runner.allocated(parse_settings(alloc, words))?;
-    let settings = settings_of(words, parsed, runner)?;
-    let operands = runner.allocated(arguments.operands(alloc))?;
-    let name = runner.file_of(Verb::Producers, &operands)?;
+    let settings = settings_of(alloc, words, runner)?;
+    let name = runner.file_of(alloc, Verb::Producers, args)?;
     let bytes = runner.hold(alloc, name)?;
-    let target = target_of(arguments);
-    change(alloc, &settings, &bytes, name, target, runner)
+    change(alloc, &settings, &bytes, way_from(name, args), runner)
 }
 
 // Shows the section, unless `--output` is given. Returns how that ended, and the run.
@@ -359,7 +364,7 @@ fn show_section<S: System, W: Write, E: Sink>(
     arguments: &Arguments<'_>,
     mut runner: Runner<S, W, E>,
 ) -> (Result<(), u8>, Runner<S, W, E>)
-    ensures { ShowsProducers S.System S.Input.Source S.Output.Sink
+    ensures { ShowsProducers S.System S.Input.Source
         (has_option option.Output (reads_of arguments.now)) (reads_of arguments.now)
         result.0 runner result.1 }
 {
@@ -400,7 +405,7 @@ pub(crate) fn producers<S: System, W: Write, E: Sink>(
     ensures { Produces S.System S.Input.Source S.Output.Sink (reads_of arguments.now)
         result.0 runner result.1 }
 {
-    match runner.allocated(arguments.values(alloc, Flag::Set)) {
+    match runner.values(alloc, arguments, Flag::Set) {
         Ok(words) => set_or_show(alloc, &words, arguments, runner),
         Err(status) => (Err(status), runner),
     }

@@ -2,7 +2,7 @@
 ghost use Rattle.std.specs.Prelude.{◌≡◌, All, is_ok};
 ghost use Rattle.std.specs.Io.KnownBytes.{Keeps};
 ghost use Rattle.wasm_commands.specs.Parsing.{reads_of, text_if_any};
-ghost use Rattle.wasm_commands.specs.Rewrites.{Changes, Closes, EditsHeld, EditsOriginal, EditsOut, EditsTarget, EditsTo, EndsFile, EndsRun, EndsTarget, Finds, FlushesAtEnd, WritesBytesTarget, WritesTo, target_in};
+ghost use Rattle.wasm_commands.specs.Rewrites.{Changes, Closes, EditsHeld, EditsOriginal, EditsOut, EditsTarget, EditsTo, EndsFile, EndsRun, EndsTarget, Finds, FlushesAtEnd, WritesBytesTarget, WritesTo, route, route_from, target_in};
 ghost use Rattle.wasm_console.specs.Messages.{joined};
 ghost use Rattle.wasm_edits.specs.Edits.{CanBeMade};
 ghost use Rattle.wasm_io.specs.Calls.{device_of, writer_device};
@@ -64,7 +64,7 @@ fn edit_original<S: System, W: Sink>(
     output: &mut W,
 ) -> Result<Result<Ended, ListError>, Cause>
     requires { All CanBeMade edits.now }
-    ensures { EditsOriginal S.System S.Input.Source S.Output.Sink system.now edits.now original.now
+    ensures { EditsOriginal S.System S.Input.Source system.now edits.now original.now
         (device_of W.taken W.has_failed output.old output.new) result }
 {
     if let Some(bytes) = &original.held {
@@ -96,6 +96,23 @@ fn flushed<W: Write>(
     }
 }
 
+/// Where a command reads a stream, and the file that it writes, if that isn't the output.
+#[derive(Clone, Copy)]
+pub(crate) struct Way<'a> {
+    pub(crate) name: &'a str,
+    pub(crate) target: Option<&'a str>,
+}
+
+/// Returns the way from a file to that of `--output`.
+pub(crate) fn way_from<'a>(name: &'a str, arguments: &Arguments<'a>) -> Way<'a>
+    ensures { route result ≡ route_from name.now (reads_of arguments.now) }
+{
+    Way {
+        name,
+        target: target_of(arguments),
+    }
+}
+
 /// Returns the file of `--output`, none if that is the output.
 pub(crate) fn target_of<'a>(arguments: &Arguments<'a>) -> Option<&'a str>
     ensures { text_if_any result ≡ target_in (reads_of arguments.now) }
@@ -109,7 +126,7 @@ pub(crate) fn target_of<'a>(arguments: &Arguments<'a>) -> Option<&'a str>
 impl<S: System, W: Write, E: Sink> Runner<S, W, E> {
     /// Returns the stream to change. One that can be read only once is read.
     pub(crate) fn find<'a>(&mut self, alloc: Global, name: &'a str) -> Result<Original<'a>, u8>
-        ensures { Finds S.System S.Input.Source S.Output.Sink name.now result self.old self.new }
+        ensures { Finds S.System S.Input.Source name.now result self.old self.new }
     {
         let held = if self.is_regular(name) {
             None
@@ -142,7 +159,7 @@ impl<S: System, W: Write, E: Sink> Runner<S, W, E> {
         original: &Original<'_>,
     ) -> Result<(), u8>
         requires { All CanBeMade edits.now }
-        ensures { EditsOut S.System S.Input.Source S.Output.Sink edits.now original.now
+        ensures { EditsOut S.System S.Input.Source edits.now original.now
             result self.old self.new }
     {
         match edit_original(alloc, edits, original, &self.system, &mut self.output) {
@@ -163,7 +180,7 @@ impl<S: System, W: Write, E: Sink> Runner<S, W, E> {
         output: &mut S::Output,
     ) -> Result<Result<Ended, ListError>, Cause>
         requires { All CanBeMade edits.now }
-        ensures { EditsOriginal S.System S.Input.Source S.Output.Sink self.now.system edits.now
+        ensures { EditsOriginal S.System S.Input.Source self.now.system edits.now
             original.now (device_of S.Output.taken S.Output.has_failed output.old output.new) result }
     {
         edit_original(alloc, edits, original, &self.system, output)
@@ -226,15 +243,14 @@ impl<S: System, W: Write, E: Sink> Runner<S, W, E> {
         &mut self,
         alloc: Global,
         edits: &[Edit<'_>],
-        name: &str,
-        target: Option<&str>,
+        way: Way<'_>,
     ) -> Result<(), u8>
         requires { All CanBeMade edits.now }
-        ensures { Changes S.System S.Input.Source S.Output.Sink edits.now name.now
-            (text_if_any target.entry) result self.old self.new }
+        ensures { Changes S.System S.Input.Source S.Output.Sink edits.now (route way.entry)
+            result self.old self.new }
     {
-        let original = self.find(alloc, name)?;
-        self.edit_to(alloc, edits, &original, target)
+        let original = self.find(alloc, way.name)?;
+        self.edit_to(alloc, edits, &original, way.target)
     }
 
     // Ends a run that wrote bytes to a file.
@@ -249,7 +265,7 @@ impl<S: System, W: Write, E: Sink> Runner<S, W, E> {
 
     // Replaces a file by what was written, if that ended well, and discards it otherwise.
     fn close(&mut self, target: &str, written: S::Output, ended: Result<(), u8>) -> Result<(), u8>
-        ensures { Closes S.System S.Input.Source S.Output.Sink target.now written (is_ok ended)
+        ensures { Closes S.System target.now written (is_ok ended)
             ended result self.old self.new }
     {
         self.replace(target, written, ended.is_ok())?;
@@ -264,7 +280,7 @@ impl<S: System, W: Write, E: Sink> Runner<S, W, E> {
         name: &str,
         target: &str,
     ) -> Result<(), u8>
-        ensures { WritesBytesTarget S.System S.Input.Source S.Output.Sink (joined parts.now)
+        ensures { WritesBytesTarget S.System S.Output.Sink (joined parts.now)
             name.now target.now result self.old self.new }
     {
         let mut written = self.create(alloc, name, target)?;
@@ -278,14 +294,13 @@ impl<S: System, W: Write, E: Sink> Runner<S, W, E> {
         &mut self,
         alloc: Global,
         parts: &[&[u8]],
-        name: &str,
-        target: Option<&str>,
+        way: Way<'_>,
     ) -> Result<(), u8>
-        ensures { WritesTo S.System S.Input.Source S.Output.Sink (joined parts.now) name.now
-            (text_if_any target.entry) result self.old self.new }
+        ensures { WritesTo S.System S.Output.Sink (joined parts.now) (route way.entry)
+            result self.old self.new }
     {
-        match target {
-            Some(target) => self.write_target(alloc, parts, name, target),
+        match way.target {
+            Some(target) => self.write_target(alloc, parts, way.name, target),
             None => self.write(parts),
         }
     }

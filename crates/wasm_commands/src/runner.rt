@@ -1,21 +1,23 @@
 // A run of a command: the system that it runs on, what it writes and what it says.
 ghost use Rattle.std.specs.Prelude.{◌≡◌, Err, IfOk, codes};
 ghost use Rattle.wasm_console.specs.Messages.{joined};
-ghost use Rattle.wasm_commands.specs.Commands.{status_in};
-ghost use Rattle.wasm_commands.specs.Messages.{complaint_text, failure_text, fault_text, file_text, missing_text, reason_if_any};
-ghost use Rattle.wasm_commands.specs.Parsing.{texts};
+ghost use Rattle.wasm_commands.specs.ArgumentLists.{operands_in, values_in};
+ghost use Rattle.wasm_commands.specs.Runs.{status_in};
+ghost use Rattle.wasm_commands.specs.Messages.{complaint_text, fault_text, file_text, missing_text};
+ghost use Rattle.wasm_commands.specs.Parsing.{AreTexts, reads_of, texts};
 ghost use Rattle.wasm_commands.specs.Reasons.{reason_of};
-ghost use Rattle.wasm_commands.specs.RewriteCommands.{TakesFile};
+ghost use Rattle.wasm_commands.specs.RewriteCommands.{TakesFile, TakesOnly};
 ghost use Rattle.wasm_commands.specs.Rewrites.{Creates, ForwardsBytes, Holds, Opens, Takes, WritesBytes, WritesOut};
 ghost use Rattle.wasm_io.specs.Calls.{device_of, writer_device};
-ghost use Rattle.wasm_commands.specs.Runs.{Allocates, Allots, Fails, FailsToWrite, IsSound, Tells, run_of};
+ghost use Rattle.wasm_commands.specs.Runs.{Allocates, Allots, Fails, FailsToWrite, IsSound, Makes, Tells, run_of};
 ghost use Rattle.wasm_edits.specs.Encoded.{Fits, encoded_section};
 ghost use Rattle.wasm_base.specs.FaultAt.{fault_at};
 
+use crate::arguments::Arguments;
 use crate::messages::{
     self, Complaint, complain, refuse_file, refuse_run, refuse_target, stop_for_memory,
 };
-use crate::options::Verb;
+use crate::options::{Flag, Verb};
 use crate::reasons::Cause;
 use crate::system::System;
 use std::alloc::{AllocError, Global};
@@ -95,7 +97,7 @@ impl<S: System, W: Write, E: Sink> Runner<S, W, E> {
 
     /// Opens a file, or standard input if its name is `-`.
     pub(crate) fn open(&mut self, name: &str) -> Result<S::Input, u8>
-        ensures { Opens S.System S.Input.Source S.Output.Sink name.now result self.old self.new }
+        ensures { Opens S.System name.now result self.old self.new }
     {
         match self.system.open(name) {
             Ok(input) => Ok(input),
@@ -110,9 +112,47 @@ impl<S: System, W: Write, E: Sink> Runner<S, W, E> {
         self.system.is_regular(name)
     }
 
+    /// Returns the values of an option.
+    pub(crate) fn values<'a>(
+        &mut self,
+        alloc: Global,
+        arguments: &Arguments<'a>,
+        flag: Flag,
+    ) -> Result<Vec<&'a str>, u8>
+        ensures { Makes (AreTexts (values_in flag (reads_of arguments.now)))
+            result self.old self.new }
+    {
+        self.allocated(arguments.values(alloc, flag))
+    }
+
+    /// Returns the operands of a command.
+    pub(crate) fn operands<'a>(
+        &mut self,
+        alloc: Global,
+        arguments: &Arguments<'a>,
+    ) -> Result<Vec<&'a str>, u8>
+        ensures { Makes (AreTexts (operands_in (reads_of arguments.now)))
+            result self.old self.new }
+    {
+        self.allocated(arguments.operands(alloc))
+    }
+
     /// Returns the file that is the only operand of a command: standard input if there is none.
-    pub(crate) fn file_of<'a>(&mut self, verb: Verb, operands: &[&'a str]) -> Result<&'a str, u8>
-        ensures { TakesFile verb (texts operands.now) result self.old self.new }
+    pub(crate) fn file_of<'a>(
+        &mut self,
+        alloc: Global,
+        verb: Verb,
+        arguments: &Arguments<'a>,
+    ) -> Result<&'a str, u8>
+        ensures { TakesFile verb (operands_in (reads_of arguments.now)) result self.old self.new }
+    {
+        let operands = self.operands(alloc, arguments)?;
+        self.only_of(verb, &operands)
+    }
+
+    // Returns the only operand, or standard input if there is none.
+    fn only_of<'a>(&mut self, verb: Verb, operands: &[&'a str]) -> Result<&'a str, u8>
+        ensures { TakesOnly verb (texts operands.now) result self.old self.new }
     {
         match operands {
             [] => Ok("-"),
@@ -123,7 +163,7 @@ impl<S: System, W: Write, E: Sink> Runner<S, W, E> {
 
     /// Reads a file into memory.
     pub(crate) fn hold(&mut self, alloc: Global, name: &str) -> Result<Vec<u8>, u8>
-        ensures { Holds S.System S.Input.Source S.Output.Sink name.now result self.old self.new }
+        ensures { Holds S.System S.Input.Source name.now result self.old self.new }
     {
         let mut input = self.open(name)?;
         match read_all(alloc, &mut input) {
@@ -139,7 +179,7 @@ impl<S: System, W: Write, E: Sink> Runner<S, W, E> {
         input: &str,
         target: &str,
     ) -> Result<S::Output, u8>
-        ensures { Creates S.System S.Input.Source S.Output.Sink input.now target.now result self.old self.new }
+        ensures { Creates S.System input.now target.now result self.old self.new }
     {
         match self.system.create(alloc, input, target) {
             Ok(output) => Ok(output),
@@ -154,7 +194,7 @@ impl<S: System, W: Write, E: Sink> Runner<S, W, E> {
         written: S::Output,
         is_complete: bool,
     ) -> Result<(), u8>
-        ensures { Takes S.System S.Input.Source S.Output.Sink target.now written is_complete
+        ensures { Takes S.System target.now written is_complete
             result self.old self.new }
     {
         match self.system.replace(written, is_complete) {

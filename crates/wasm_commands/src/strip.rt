@@ -1,37 +1,16 @@
 // The command `strip`: removes custom sections.
-ghost use Rattle.std.specs.Prelude.{◌≡◌, IfOk};
-ghost use Rattle.wasm_commands.specs.ArgumentLists.{operands_in, values_in};
-ghost use Rattle.wasm_commands.specs.Parsing.{reads_of, texts};
-ghost use Rattle.wasm_commands.specs.RewriteCommands.{IsStripAsked, Strips};
+ghost use Rattle.wasm_commands.specs.Parsing.{reads_of};
+ghost use Rattle.wasm_commands.specs.RewriteCommands.{Strips};
 
 use crate::arguments::Arguments;
 use crate::options::{Flag, Verb};
-use crate::rewriting::target_of;
+use crate::rewriting::way_from;
 use crate::runner::Runner;
 use crate::system::System;
-use std::alloc::{AllocError, Global};
+use std::alloc::Global;
 use std::io::Write;
 use wasm_edits::{Edit, Keep};
 use wasm_io::Sink;
-
-// What `strip` was asked for: the sections that stay, those that are removed, and the operands.
-#[derive(Drop)]
-struct Asked<'a> {
-    kept: Vec<&'a str>,
-    removed: Vec<&'a str>,
-    operands: Vec<&'a str>,
-}
-
-// Returns what the arguments ask for.
-fn asked_by<'a>(alloc: Global, arguments: &Arguments<'a>) -> Result<Asked<'a>, AllocError>
-    ensures { IfOk result (λ asked. IsStripAsked (reads_of arguments.now) asked) }
-{
-    Ok(Asked {
-        kept: arguments.values(alloc, Flag::Keep)?,
-        removed: arguments.values(alloc, Flag::Only)?,
-        operands: arguments.operands(alloc)?,
-    })
-}
 
 /// Runs `strip`: removes the custom sections of a file or of standard input, except those that stay.
 ///
@@ -50,12 +29,13 @@ pub(crate) fn strip<S: System, W: Write, E: Sink>(
     ensures { Strips S.System S.Input.Source S.Output.Sink (reads_of arguments.now)
         result runner.old runner.new }
 {
-    let asked = runner.allocated(asked_by(alloc, arguments))?;
-    let name = runner.file_of(Verb::Strip, &asked.operands)?;
+    let kept = runner.values(alloc, arguments, Flag::Keep)?;
+    let removed = runner.values(alloc, arguments, Flag::Only)?;
+    let name = runner.file_of(alloc, Verb::Strip, arguments)?;
     let edits = [Edit::Keep(Keep {
         names: arguments.has(Flag::KeepNames),
-        kept: &asked.kept,
-        removed: &asked.removed,
+        kept: &kept,
+        removed: &removed,
     })];
-    runner.edit_file(alloc, &edits, name, target_of(arguments))
+    runner.edit_file(alloc, &edits, way_from(name, arguments))
 }

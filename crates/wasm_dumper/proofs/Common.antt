@@ -35,14 +35,12 @@ pub use Rattle.wasm_io.specs.declared.devices.ListError.TheVariants.{Input}
 pub use Rattle.wasm_io.specs.declared.digits.Base.{Base}
 pub use Rattle.wasm_output.proofs.ForCallers.{first_in_objects}
 pub use Rattle.wasm_output.specs.ItemNames.{KeepsNames}
-pub use Rattle.wasm_output.specs.Numbers.{Number, more, numbers_from, numbers_read}
+pub use Rattle.wasm_output.specs.Numbers.{Number, more}
 pub use Rattle.wasm_output.specs.Tree.{Writing, IsWritten, with_numbers, AddsThese, AddsNumbers, Adds, IsOut, base_of, Origin, AddsFirst}
-pub use Rattle.wasm_output.specs.Tree.{AddsUpTo}
 pub use Rattle.wasm_output.specs.declared.numbers.Space.{Space}
-pub use Rattle.wasm_output.specs.declared.numbers.Space.TheVariants.{Types}
+pub use Rattle.wasm_output.specs.declared.numbers.Space.TheVariants.{Types, Functions, Tables, Memories, Tags, Globals, DataSegments}
 pub use Rattle.wasm_dumper.specs.Chosen.{chosen_line, is_chosen, shown_line, numbered_line}
-pub use Rattle.wasm_dumper.specs.Counting.{one_number, after, after_all, no_counts, numbers_in_line, Found, import_numbers, count_of}
-pub use Rattle.wasm_dumper.specs.Counting.{item_at}
+pub use Rattle.wasm_dumper.specs.Counting.{after, after_all, no_counts, numbers_in_line, Found, count_of}
 pub use Rattle.wasm_dumper.specs.Dump.{AreOfItemsIf, ShowsItemsIf}
 pub use Rattle.wasm_dumper.specs.Dump.{AreOfShown, DumpsInto, ShowsAnswer, bytes_of_events, origin, shown_bytes, AreOf, AreOfEvents}
 pub use Rattle.wasm_dumper.specs.Hiding.{FailsWithin, Skips}

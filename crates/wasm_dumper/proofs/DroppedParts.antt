@@ -1,28 +1,23 @@
 -- How far a dump has come after a part that was skipped by its first fields, and dropped.
-use Rattle.wasm_dumper.proofs.Common.{◌≡◌, ℕ, ◌+◌, ◌^◌, ◌<◌, Bool, true, false, List, [], ◌∷◌, ◌++◌, Some, None, Err, refl, sym, ap, subst}
-use Rattle.wasm_dumper.proofs.Common.{subst₂, ◌∙◌, arith, length, Option, append_assoc, length-append, drop, Consumes-trans}
-use Rattle.wasm_dumper.proofs.Common.{fault_at, Error, seen, lending, Feed, pushed, weight, Moves, Cursor, Stop, Fault}
+use Rattle.wasm_dumper.proofs.Common.{◌≡◌, ℕ, ◌+◌, ◌<◌, Bool, true, false, List, [], ◌∷◌, ◌++◌, Some, None, Err, refl, sym, ap, subst}
+use Rattle.wasm_dumper.proofs.Common.{subst₂, ◌∙◌, Option, Consumes-trans}
+use Rattle.wasm_dumper.proofs.Common.{Error, seen, lending, Feed, pushed, weight, Moves, Cursor, Stop, Fault}
 use Rattle.wasm_dumper.proofs.Common.{fault, Event, last_event, input_failed, ListError, Input, Writing, IsWritten, Adds}
 use Rattle.wasm_dumper.proofs.Common.{IsOut, chosen_line, after, no_counts}
 use Rattle.wasm_dumper.proofs.Common.{AreOf, DumpsInto, ShowsAnswer, bytes_of_events, origin, FailsWithin, Skips, Counts, Only}
-use Rattle.std.proofs.Common.{nat_lt}
-use Rattle.std.proofs.lemmas.Bool.Decides.{nat_tests}
-use Rattle.std.specs.Io.KnownBytes.{IsAtEnd}
 use Rattle.wasm_base.specs.FaultAt.{at_offset}
 use Rattle.wasm_base.specs.declared.fault.Fault.TheVariants.{UnexpectedEof}
 use Rattle.wasm_dumper.specs.Hiding.{CountsOutline, DropsPart, ReportsOutline, ShowsOutline}
 use Rattle.wasm_dumper.specs.declared.hidden.Skipped.{Skipped}
-use Rattle.wasm_streams.specs.Beside.{unseen}
 use Rattle.wasm_streams.specs.Passing.{SkipsHere, held_by}
 use Rattle.wasm_streams.specs.Progress.{Reached}
-use Rattle.wasm_grammar.specs.Grammar.{final, verdict}
-use Rattle.wasm_frames.specs.ParserState.{grammar_of}
 use Rattle.wasm_frames.specs.SkipNext.{Head, skip_in}
 use Rattle.wasm_dumper.specs.Dumping.{Dumping, HasWritten, IsFresh, WrittenWith, outline_of}
 use Rattle.wasm_dumper.proofs.Dumping.{ShowsStep, Wanting, all, bytes_more, dumped, events_are}
 use Rattle.wasm_dumper.proofs.Dumping.{has_failed, not_whole, numbers_of, source, stopped_after, whole}
 use Rattle.wasm_dumper.proofs.Numbering.{all_more, events_more}
-use Rattle.wasm_streams.proofs.ForCallers.{arrived, is_short, one_more, past, reads_short, same_held}
+use Rattle.wasm_streams.proofs.ForCallers.{one_more, reads_short}
+use Rattle.wasm_dumper.proofs.ShortParts as short
 use Rattle.wasm_streams.specs.declared.turns.Turn.TheVariants as turn
 
 -- the bytes of a step are those that it sees
@@ -78,8 +73,7 @@ module _ (only : List Only) (has_bytes : Bool) (full rest : Option (List ℕ)) (
         (eof : new.eof ≡ skipped.is_finished) (shown : Writing) (shows : ShowsOutline only has_bytes c part.outline last shown) where
       came : (e : Event) × (skip_in e.report ≡ Some sk.skip) × (e.consumed ≡ x.part) × Reached full rest' new (d.events ++ e ∷ [])
           × (weight new < weight (lending stored chunk cur))
-      came = past stays full rest d.events cur stored chunk d.asks part.passing skipped sk x.fetched x.part left x.parts (rw n at x.ends)
-          rest' x.gave new state held eof
+      came = short.came only has_bytes full rest cur stored chunk d.events d.asks part skipped h rest' cut left x n new state held eof
 
       abbrev e : Event
       e = came.0
@@ -128,53 +122,16 @@ module _ (only : List Only) (has_bytes : Bool) (full rest : Option (List ℕ)) (
 
     -- the source ended within the part: all that arrived is the fault
     module _ (error : Error) (cuts : cut ≡ Some error) where
-      ends : (length x.part < part.passing.size) × IsAtEnd rest' × (left ≡ [])
-          × (fault_at error ≡ at_offset UnexpectedEof part.passing.from)
-      ends = rw cuts at x.ends
-
       abbrev feed : Feed
       feed = record (pushed (lending stored chunk cur) x.fetched) { eof = true }
 
-      abbrev first : List ℕ
-      first = drop cur.mark (seen stored chunk)
-
-      within : cur.parser.offset + length (first ++ (unseen stored chunk ++ x.fetched)) < sk.skip.to
-      within =
-          let few = is_short stays full rest d.events cur stored chunk d.asks part.passing skipped sk x.fetched x.part left x.parts
-          ends.0 ends.2 in
-          let s = ap (λ (l : List ℕ). length l)
-          (same_held stays full rest d.events cur stored chunk d.asks part.passing skipped sk x.fetched) in
-          let n = length-append first (unseen stored chunk ++ x.fetched) in
-          let m = length-append (unseen stored chunk) x.fetched in
-          let l = length-append first (unseen stored chunk) in
-          let z = sk.size in
-          omega (arith, s, n, m, l, z, few)
-
-      joined : (first ++ unseen stored chunk) ++ x.fetched ≡ first ++ (unseen stored chunk ++ x.fetched)
-      joined = append_assoc first (unseen stored chunk) x.fetched
-
-      refused : verdict (grammar_of cur.parser) feed.held ≡ final (fault (fault_at error))
-      refused = rw (joined, ends.3, sk.from) (sk.skips.short (unseen stored chunk ++ x.fetched) within)
-
-      below : nat_lt (cur.parser.offset + length feed.held) (2 ^ 64) ≡ true
-      below =
-          let l = ap (λ (y : List ℕ). length y) joined in
-          let f = sk.skips.fits in
-          grind (arith, nat_tests, l, f, within)
-
       pub fault_step : Moves feed (Stop error) feed
-      fault_step = record {
-        parses = record { answer = rw (below, refused) refl; state = refl };
-        shows = refl;
-        stored = refl;
-        eof = refl;
-        wants_more = refl;
-      }
+      fault_step = short.fault_step only has_bytes full rest cur stored chunk d.events d.asks part skipped h rest' cut left x error cuts
 
       pub dumping_short : Dumping only has_bytes full rest' before feed c last
       dumping_short = record {
         events = d.events;
-        reached = arrived full rest (lending stored chunk cur) d.events d.asks rest' x.fetched true x.gave (λ _. ends.1);
+        reached = short.reached_short only has_bytes full rest cur stored chunk d.events d.asks part skipped h rest' cut left x error cuts;
         counted = d.counted;
         writing = written;
       }

@@ -1,10 +1,10 @@
-pub mod CheckedParts
-pub mod Checking
 pub mod Common
-pub mod Counted
 pub mod DroppedParts
 pub mod DumpTurns
 pub mod Dumping
 pub mod EventLines
 pub mod Numbering
 pub mod Outlines
+pub mod ShortParts
+pub mod WalkSteps
+pub mod Walked

@@ -1,28 +1,27 @@
 -- What is shown of a part that was skipped, by its first fields, is what is shown of its event.
 use Rattle.wasm_dumper.proofs.Common.{◌≡◌, ℕ, Bool, true, false, List, [], ◌∷◌, ◌++◌, Some, None, Option, refl, sym, ap, subst, subst₂, ◌∙◌}
 use Rattle.wasm_dumper.proofs.Common.{list_any, if◌then◌else◌, nat_eq, import_id, Report, counted, Writing, Base, base_of, AddsFirst}
-use Rattle.wasm_dumper.proofs.Common.{append_assoc, numbered_line, is_chosen, after, no_counts, shows_items, ShowsItemsIf, Counts, Only}
+use Rattle.wasm_dumper.proofs.Common.{append_assoc, numbered_line, is_chosen, after, shows_items, ShowsItemsIf, Counts, Only}
 use Rattle.std.proofs.Common.{Ok, Result, not, ◌&&◌, ◌||◌, bytes_eq, codes}
 use Rattle.std.specs.List.{starts_with}
 use Rattle.std.specs.String.{string_bytes}
-use Rattle.wasm_base.specs.FaultAt.{FaultAt}
 use Rattle.wasm_base.specs.Window.{Window, place, whole_window}
 use Rattle.wasm_custom.specs.Known.{Known, read_by_name, reading_of, readings, relocations_in, unknown}
-use Rattle.wasm_dumper.specs.Checks.{custom_of, notes_if, shown_notes}
 use Rattle.wasm_dumper.specs.Chosen.{is_chosen_by, outlined_text, section_words, size_text}
 use Rattle.wasm_dumper.specs.Dump.{ShowsReport}
 use Rattle.wasm_dumper.specs.Hiding.{ReportsOutline, after_hidden, has_imports, has_symbols, is_body_head, is_hidden, is_known, is_outlined}
 use Rattle.wasm_dumper.specs.Hiding.{outlined_part}
 use Rattle.wasm_dumper.specs.declared.hidden.CustomOutline.{CustomOutline}
 use Rattle.wasm_dumper.specs.declared.hidden.Outline.TheVariants.{Custom, Hidden}
+use Rattle.wasm_base.specs.FaultAt.{FaultAt}
+use Rattle.wasm_dumper.specs.Walks.{custom_of, report_seen}
+use Rattle.wasm_dumper.specs.declared.events.Only.TheVariants.{All}
+use Rattle.wasm_show.specs.Lists.{custom_seen, features_seen, read_seen}
+use Rattle.wasm_show.specs.Seen.{Seen, enters}
+use Rattle.wasm_show.specs.Seen as Seen
 use Rattle.wasm_frames.specs.SkipNext.{Skip, custom, report_with, skip_in}
 use Rattle.wasm_grammar.specs.Reading.{code_entry, custom_section, unknown_section}
 use Rattle.wasm_lines.specs.Listing.{skip_text}
-use Rattle.wasm_show.specs.Faults.{custom_faults, features_faults, read_faults}
-use Rattle.wasm_output.specs.Found.{Finds, FindsNone, Noted}
-use Rattle.wasm_output.specs.Notes.{enters, faults}
-use Rattle.wasm_output.specs.Notes as Notes
-use Rattle.wasm_output.proofs.ForCallers.{finds_nothing, finds_same}
 use Rattle.wasm_dumper.proofs.Numbering.{no_bytes, shows_chosen, shows_unchosen}
 use Rattle.wasm_lines.proofs.ForCallers.{skipped_text}
 
@@ -75,10 +74,6 @@ module _ (only : List Only) (has_bytes is_body : Bool) (r : Report) (o : Reports
   pub hidden_counted : (c c' : Counts) → c' ≡ after_hidden c is_body → c' ≡ after c r
   hidden_counted c c' e = e ∙ (ap (after_hidden c) o.2.1 ∙ sym (counted_as only c r o.0 o.1 o.2.0))
 
-  pub hidden_found : (x : Option Noted) → Finds (shown_notes only r) x x
-  hidden_found x = finds_same [] (shown_notes only r) x x
-      (sym (ap (λ (b : Bool). if b then notes_if (shows_items only) r else []) unchosen)) (finds_nothing x x (λ since notes h. h))
-
 -- ---- the line of a custom section
 
 -- it is that of its first fields
@@ -116,26 +111,16 @@ unread (row ∷ rows) name w e n =
     let (first, later) = either_false (bytes_eq name row.0) (list_any (λ row. bytes_eq name row.0) rows) e in
     ap (λ (b : Bool). if b then row.1 w else read_by_name rows name w) first ∙ unread rows name w later n
 
-unknown_sound : (name : List ℕ) (at : ℕ) (w : Window) → is_known name ≡ false → custom_faults (custom_of name at w) ≡ []
-unknown_sound name at w e =
+unknown_seen : (deep : Bool) (level : ℕ) (name : List ℕ) (at : ℕ) (w : Window) → is_known name ≡ false
+    → custom_seen deep level (custom_of name at w) ≡ []
+unknown_seen deep level name at w e =
     let features = bytes_eq name (codes "target_features") in
     let relocations = starts_with nat_eq name (codes "reloc.") in
     let (rows, others) = either_false (list_any (λ row. bytes_eq name row.0) readings) (features || relocations) e in
     let (no_features, no_relocations) = either_false features relocations others in
     let section = custom_of name at w in
-    ap (λ (b : Bool). if b then features_faults section else read_faults (reading_of section)) no_features
-    ∙ ap read_faults (unread readings name (whole_window (place section.reader)) rows no_relocations)
-
--- of one whose items are not shown nothing is noted, and of one whose name is not known its name alone
-sound : (has_items : Bool) (name : List ℕ) (at : ℕ) (w : Window) → not (has_items && is_known name) ≡ true
-    → notes_if has_items (custom_section name at w) ≡ (if has_items then enters (Notes.custom name) ∷ [] else [])
-sound false name at w e = refl
-sound true name at w e = ap (λ (fs : List FaultAt). enters (Notes.custom name) ∷ faults fs)
-    (unknown_sound name at w (not_true (is_known name) e))
-  where
-    not_true : (b : Bool) → not b ≡ true → b ≡ false
-    not_true true e = cc
-    not_true false e = refl
+    ap (λ (b : Bool). if b then features_seen deep level section else read_seen deep level (reading_of section)) no_features
+    ∙ ap (read_seen deep level) (unread readings name (whole_window (place section.reader)) rows no_relocations)
 
 -- ---- a custom section of which the first fields are shown
 
@@ -165,18 +150,6 @@ module _ (only : List Only) (c : Counts) (text : List ℕ) (at : ℕ) (s : Skip)
       (rw (custom_line (base_of old.style) c text at w s e) a)
       (items_alike (shows_items only) c text at v w mid new b)
 
-  found_so : (has_bytes : Bool) (old new : Option Noted) → is_outlined only has_bytes text ≡ true
-      → Finds (notes_if (shows_items only) (custom_section text at v)) old new
-      → Finds (shown_notes only (custom_section text at w)) old new
-  found_so true old new o f = cc
-  found_so false old new o f =
-      let unknown = (both_true (not (shows_items only && is_known text)) (is_chosen only (custom_section text at w)) o).0 in
-      let same : notes_if (shows_items only) (custom_section text at v) ≡ notes_if (shows_items only) (custom_section text at w) =
-      sound (shows_items only) text at v unknown ∙ sym (sound (shows_items only) text at w unknown) in
-      let chosen = (both_true (not (shows_items only && is_known text)) (is_chosen only (custom_section text at w)) o).1 in
-      finds_same _ _ old new
-      (same ∙ sym (ap (λ (b : Bool). if b then notes_if (shows_items only) (custom_section text at w) else []) chosen)) f
-
 module _ (only : List Only) (has_bytes : Bool) (section : CustomOutline) (r : Report)
     (o : ReportsOutline only has_bytes (Custom section) r) (v : Window) where
   abbrev name : List ℕ
@@ -202,12 +175,24 @@ module _ (only : List Only) (has_bytes : Bool) (section : CustomOutline) (r : Re
       let (w, is) = reported r (outlined_part section) name section.data_offset of_section refl in
       ap (λ (x : Report). after c x) (sym is)
 
-  pub custom_found : (empty : Report) → empty ≡ custom_section name section.data_offset v → (has_items : Bool)
-      → has_items ≡ shows_items only → (old mid new : Option Noted) → FindsNone old mid → Finds (notes_if has_items empty) mid new
-      → Finds (shown_notes only r) old new
-  custom_found empty empty_is has_items items_are old mid new n f =
-      let (w, is) = reported r (outlined_part section) name section.data_offset of_section refl in
-      subst (λ (x : Report). Finds (shown_notes only x) old new) (sym is)
-      (found_so only no_counts name section.data_offset (outlined_part section) v w (sym (ap skip_in is) ∙ of_section) has_bytes old new
-      o.2.0 (subst₂ (λ (x : Bool) (y : Report). Finds (notes_if x y) old new) items_are empty_is
-      (λ since notes h. f since notes (n since notes h))))
+-- ---- what a walk sees of a part that was skipped
+
+not_true : (b : Bool) → not b ≡ true → b ≡ false
+not_true true e = cc
+not_true false e = refl
+
+-- no part is hidden
+pub none_hidden : (is_body : Bool) (r : Report) → ReportsOutline (All ∷ []) false (Hidden is_body) r → ⊥
+none_hidden is_body r o = absurd (let no : true ≡ false = (hidden_by (All ∷ []) o.0 (skip_in r) o.1 o.2.0).1 in cc)
+
+-- a section whose name is not known has no items
+pub outline_seen : (deep : Bool) (c : Counts) (section : CustomOutline) (r : Report) → ReportsOutline (All ∷ []) false (Custom section) r
+    → (v : Window) (empty : Report) → empty ≡ custom_section (string_bytes section.name) section.data_offset v
+    → report_seen deep c empty ≡ report_seen deep c r
+outline_seen deep c section r o v empty empty_is =
+    let name = string_bytes section.name in
+    let (w, is) = reported r (outlined_part section) name section.data_offset (o.1 ∙ ap (λ (s : Skip). Some s) o.2.1) refl in
+    let unknown = not_true (is_known name) (both_true _ _ o.2.0).0 in
+    let one = λ (l : List Seen). enters (Seen.custom name) ∷ l in
+    ap (report_seen deep c) empty_is ∙ (ap one (unknown_seen deep 1 name section.data_offset v unknown
+    ∙ sym (unknown_seen deep 1 name section.data_offset w unknown)) ∙ ap (report_seen deep c) (sym is))

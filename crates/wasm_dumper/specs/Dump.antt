@@ -4,7 +4,7 @@ use Rattle.std.specs.Prelude.{Err, if◌then◌else◌}
 use Rattle.std.specs.Io.KnownBytes.{Appends, Consumes}
 use Rattle.wasm_base.specs.Features.{all_features}
 use Rattle.wasm_grammar.specs.EventRanges.{consumed_by}
-use Rattle.wasm_grammar.specs.Reading.{Report, Event}
+use Rattle.wasm_grammar.specs.Reading.{Report, Event, counted}
 use Rattle.wasm_frames.specs.Along.{ReadingBegins}
 use Rattle.wasm_io.specs.Calls.{Change, Device, bytes_of, from_to, input_failed, output_failed}
 use Rattle.wasm_streams.specs.Lists.{ListsBy}
@@ -15,8 +15,10 @@ use Rattle.wasm_streams.specs.declared.turns.Ended.TheVariants.{End}
 use Rattle.wasm_io.specs.declared.devices.ListError.{ListError}
 use Rattle.wasm_io.specs.declared.devices.ListError.TheVariants.{Input, Output, Memory}
 use Rattle.wasm_dumper.specs.Chosen.{is_chosen, chosen_line, shows_items}
-use Rattle.wasm_output.specs.Numbers.{Number}
-use Rattle.wasm_dumper.specs.Counting.{after, no_counts, numbers_in_line, AreOfItems}
+use Rattle.wasm_output.specs.Numbers.{AreShown, Number}
+use Rattle.wasm_show.specs.Seen.{numbers_of}
+use Rattle.wasm_dumper.specs.Counting.{after, no_counts, numbers_in_line}
+use Rattle.wasm_dumper.specs.Walks.{counted_seen}
 use Rattle.wasm_output.specs.Tree.{IsShaped, Writing, Origin, IsWritten, AddsNumbers, with_bytes, with_line}
 use Rattle.wasm_output.specs.Tree.{with_numbers}
 use Rattle.wasm_output.specs.Tree.{starts_in}
@@ -24,7 +26,15 @@ use Rattle.wasm_output.specs.declared.tree.Style.{Style}
 use Rattle.wasm_dumper.specs.declared.counts.Counts.{Counts}
 use Rattle.wasm_dumper.specs.declared.events.Only.{Only}
 
--- The numbers are those of the items of what is reported, if items are shown.
+-- | the numbers of the items of a report, of events, and of what a source returned [; `AreOf`, `AreOfEvents`,
+--   `AreOfSource`] <Indices; this project>
+-- The numbers are those of the items that are reported, up to the first fault, or where the dump has stopped.
+abbrev pub AreOfItems : (why : Option ListError) → Counts → Report → List Number → Type 0
+AreOfItems why c (counted id count window) shown = AreShown why shown
+    (numbers_of (counted_seen false c id count window))
+AreOfItems why c other shown = shown ≡ []
+
+-- The same, if items are shown.
 abbrev pub AreOfItemsIf : (why : Option ListError) (has_items : Bool) → Counts → Report → List Number → Type 0
 AreOfItemsIf why true counts report numbers = AreOfItems why counts report numbers
 AreOfItemsIf why false counts report numbers = numbers ≡ []
@@ -92,9 +102,9 @@ is_whole (Ok End) = true
 is_whole other = false
 
 -- What the source returned is read as events that begin with these, which consumed all of it but the remaining bytes:
--- none, if that was the whole stream. The numbers are theirs: each is how many items precede it in its index space. But
--- for types, no number is missing up to a section's first fault, unless the writing had stopped. The bytes are those
--- that they consumed, if these are shown.
+-- none, if that was the whole stream. The numbers are theirs: each is how many items precede it in its index space, and
+-- none is missing up to a section's first fault, unless the writing had stopped. The bytes are those that they
+-- consumed, if these are shown.
 pub record AreOfSource (why : Option ListError) (whole : Bool) (only : List Only) (has_bytes : Bool) (input : Change)
     (numbers : List Number) (bytes : List ℕ) : Type 0 where
   pub given : List ℕ

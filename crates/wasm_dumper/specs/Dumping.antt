@@ -1,6 +1,5 @@
 -- How far a dump has come along a stream.
 use Rattle.std.specs.Prelude.{◌≡◌, ℕ, Bool, List, [], Option, Some, None, Result, Ok, Err}
-use Rattle.wasm_dumper.specs.Checks.{FindsAt, notes_of}
 use Rattle.wasm_dumper.specs.Chosen.{chosen_line}
 use Rattle.wasm_dumper.specs.Counting.{after_all, no_counts}
 use Rattle.wasm_dumper.specs.Dump.{AreOfEvents, DumpsInto, bytes_of_events, origin}
@@ -12,9 +11,8 @@ use Rattle.wasm_streams.specs.Progress.{Reached}
 use Rattle.wasm_streams.specs.Visits.{Stages}
 use Rattle.wasm_streams.specs.declared.turns.Ended.{Ended}
 use Rattle.wasm_grammar.specs.Reading.{Event}
-use Rattle.wasm_io.specs.Calls.{Device, bytes_of}
+use Rattle.wasm_io.specs.Calls.{Device}
 use Rattle.wasm_io.specs.declared.devices.ListError.{ListError}
-use Rattle.wasm_output.specs.Found.{Finds, FindsNone, Noted}
 use Rattle.wasm_output.specs.Numbers.{Number}
 use Rattle.wasm_output.specs.Tree.{Adds, IsOut, IsWritten, Writing}
 use Rattle.wasm_output.specs.declared.tree.Style.{Style}
@@ -48,37 +46,28 @@ pub record Dumping (only : List Only) (has_bytes : Bool) (full rest : Option (Li
   pub counted : c ≡ after_all no_counts events
   pub writing : HasWritten only has_bytes before events now
 
--- where the feeder is along what the source gave, and what was found of its events
-pub record Finding (only : List Only) (full rest : Option (List ℕ)) (f : Feed) (old new : Option Noted) : Type 0 where
-  pub events : List Event
-  pub reached : Reached full rest f events
-  pub found : Finds (notes_of only events) old new
-
 -- | a visitor that dumps, and what is so of it at each stage of its run [`Dumper`, `dump_stages`; `Going`, `Ending`,
 --   `Done`]
--- What it shows and counts, and what its tree has written and found.
+-- What it shows and counts, and what its tree has written.
 pub record Dumper (V W : Type 0) : Type 0 where
   pub only : V → List Only
   pub has_bytes : V → Bool
   pub counts : V → Counts
   pub writing : W → Writing
-  pub found : W → Option Noted
 
 module _ {V W : Type 0} (d : Dumper V W) (first : V) (start : W) (input : Device) where
   pub record Going (f : Feed) (now : V) (out : W) : Type 0 where
     pub dumping : Dumping (d.only first) (d.has_bytes first) input.before input.after (d.writing start) f (d.counts now)
         (d.writing out)
-    pub finding : Finding (d.only first) input.before input.after f (d.found start) (d.found out)
     pub same : (d.only now ≡ d.only first) × (d.has_bytes now ≡ d.has_bytes first)
 
   abbrev pub Done : Result Ended ListError → (out : W) → Type 0
   Done result out = DumpsInto (d.only first) (d.has_bytes first) input (d.writing start) result (d.writing out)
-      × FindsAt (d.only first) (bytes_of input) result (d.found start) (d.writing out) (d.found out)
 
   -- Once all is written out, the run ends so.
   pub record Ending (how : Ended) (now : V) (out : W) : Type 0 where
     pub whole : (last : W) → Adds (d.writing out) (d.writing last) → IsOut (d.writing last)
-        → (d.writing last).why ≡ None → FindsNone (d.found out) (d.found last) → Done (Ok how) last
+        → (d.writing last).why ≡ None → Done (Ok how) last
     pub cut : (last : W) (why : ListError) → Adds (d.writing out) (d.writing last) → (d.writing last).why ≡ Some why
         → Done (Err why) last
 
@@ -90,6 +79,5 @@ dump_stages d = record {
 }
 
 abbrev pub dumper : {V W : Type 0} → (only : V → List Only) (has_bytes : V → Bool) (counts : V → Counts)
-    (writing : W → Writing) (found : W → Option Noted) → Dumper V W
-dumper only has_bytes counts writing found =
-    record { only = only; has_bytes = has_bytes; counts = counts; writing = writing; found = found }
+    (writing : W → Writing) → Dumper V W
+dumper only has_bytes counts writing = record { only = only; has_bytes = has_bytes; counts = counts; writing = writing }

@@ -15,10 +15,8 @@ use Rattle.wasm_streams.specs.declared.cursor.Cursor.{Cursor}
 use Rattle.wasm_streams.specs.declared.passing.Passing.{Passing}
 use Rattle.wasm_io.specs.declared.devices.ListError.{ListError}
 use Rattle.wasm_io.specs.declared.devices.ListError.TheVariants.{Input}
-use Rattle.wasm_output.specs.Found.{Finds, Noted}
 use Rattle.wasm_output.specs.Numbers.{more}
 use Rattle.wasm_output.specs.Tree.{Writing}
-use Rattle.wasm_dumper.specs.Checks.{shown_notes}
 use Rattle.wasm_dumper.specs.Chosen.{is_chosen_by, is_chosen_with, shows_items}
 use Rattle.wasm_dumper.specs.Counting.{after}
 use Rattle.wasm_dumper.specs.Dump.{ShowsReport}
@@ -102,11 +100,6 @@ ShowsOutline only has_bytes counts outline old new = (report : Report) (bytes : 
 abbrev pub CountsOutline : List Only → (has_bytes : Bool) → Outline → (old new : Counts) → Type 0
 CountsOutline only has_bytes outline old new = (report : Report)
     → ReportsOutline only has_bytes outline report → new ≡ after old report
-
--- What it has was found.
-abbrev pub FindsOutline : List Only → (has_bytes : Bool) → Outline → (old new : Option Noted) → Type 0
-FindsOutline only has_bytes outline old new = (report : Report)
-    → ReportsOutline only has_bytes outline report → Finds (shown_notes only report) old new
 
 -- the counts after a part of which nothing is shown
 abbrev pub after_hidden : Counts → (is_body : Bool) → Counts

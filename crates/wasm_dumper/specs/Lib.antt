@@ -1,6 +1,7 @@
-pub mod Checks
 pub mod Chosen
 pub mod Counting
 pub mod Dump
 pub mod Dumping
 pub mod Hiding
+pub mod Walking
+pub mod Walks

@@ -3,7 +3,6 @@ ghost use Rattle.std.specs.List.{list_any};
 ghost use Rattle.std.specs.Prelude.{◌≡◌, ◌≤◌, ◌+◌, ◌++◌, codes, false, IfSome, length, option_map, Some, take, true};
 ghost use Rattle.wasm_base.specs.FaultAt.{fault_at};
 ghost use Rattle.wasm_base.specs.Window.{place};
-ghost use Rattle.wasm_dumper.specs.Checks.{report_notes};
 ghost use Rattle.wasm_dumper.specs.Chosen.{after_blank, body_words, counted_name as name_counted, end_text, fields_part, id_of as id_reported, is_chosen, is_chosen_by, is_chosen_with, is_parts, name_of as name_reported, numbered_line, outlined_text, range_of as range_reported, section_words, shows_items as items_are_shown, size_text};
 ghost use Rattle.wasm_grammar.specs.Content.{fault};
 ghost use Rattle.wasm_grammar.specs.Ids.{name_of};
@@ -12,7 +11,6 @@ ghost use Rattle.wasm_frames.specs.Frame.{unread};
 ghost use Rattle.wasm_frames.specs.SkipNext.{custom, windowed};
 ghost use Rattle.wasm_lines.specs.Listing.{line_in};
 ghost use Rattle.wasm_parser.specs.ParseAnswer.{report_of};
-ghost use Rattle.wasm_output.specs.Found.{Finds, FindsNone};
 ghost use Rattle.wasm_output.specs.Tree.{Adds, AddsFirst, base_of, has_line_feed};
 
 use crate::counts::Counts;
@@ -25,7 +23,7 @@ use wasm_grammar::{CODE_SECTION, CUSTOM_SECTION, section_name};
 use wasm_io::{Base, ShortText, write_number, write_word};
 use wasm_items::FunctionBody;
 use wasm_lines::{FaultLine, encoding_name, write_custom};
-use wasm_output::{Space, Style, Tree, Within, write_item};
+use wasm_output::{Space, Style, Tree, write_item};
 use wasm_parser::{Encoding, Payload};
 
 /// A choice of events for a dump.
@@ -368,12 +366,8 @@ fn section_event<O: Tree>(payload: &Payload<'_>, out: &mut O)
 
 // Writes the object of an event.
 fn event_object<O: Tree>(counts: &Counts, payload: &Payload<'_>, out: &mut O)
-    ensures adds { Adds (O.writing out.old) (O.writing out.new) }
-    ensures found { FindsNone (O.found out.old) (O.found out.new) }
+    ensures { Adds (O.writing out.old) (O.writing out.new) }
 {
-    if O::ONLY_FAULTS {
-        return;
-    }
     match payload {
         Payload::Version {
             num,
@@ -389,19 +383,12 @@ fn event_object<O: Tree>(counts: &Counts, payload: &Payload<'_>, out: &mut O)
     }
 }
 
-// Writes the object of a fault, or its line on a tree that keeps faults alone.
+// Writes the object of a fault.
 fn fault_object<O: Tree>(error: &Error, out: &mut O)
-    ensures adds { Adds (O.writing out.old) (O.writing out.new) }
-    ensures found { Finds (report_notes (stream_end (fault (fault_at error.now))))
-        (O.found out.old) (O.found out.new) }
+    ensures { Adds (O.writing out.old) (O.writing out.new) }
 {
-    if O::ONLY_FAULTS {
-        out.enter(Within::Stream);
-        out.fault(0, error);
-    } else {
-        begin_event("fault", out);
-        out.fault_fields(error);
-    }
+    begin_event("fault", out);
+    out.fault_fields(error);
 }
 
 // Returns the index of the function of a body, or of the function that the start section names.
@@ -461,12 +448,8 @@ impl ShortText for CustomLine<'_> {
 
 // Writes the object of a custom section.
 fn custom_object<O: Tree>(fields: CustomFields<'_>, out: &mut O)
-    ensures adds { Adds (O.writing out.old) (O.writing out.new) }
-    ensures found { FindsNone (O.found out.old) (O.found out.new) }
+    ensures { Adds (O.writing out.old) (O.writing out.new) }
 {
-    if O::ONLY_FAULTS {
-        return;
-    }
     let range = fields.start..fields.end;
     begin_section(CUSTOM_SECTION, section_name(CUSTOM_SECTION), &range, out);
     out.quoted("custom_name", fields.name);
@@ -475,9 +458,8 @@ fn custom_object<O: Tree>(fields: CustomFields<'_>, out: &mut O)
 
 /// Writes the line of a custom section, with its name, or its object.
 pub(crate) fn show_custom_event<O: Tree>(fields: CustomFields<'_>, out: &mut O)
-    ensures adds { AddsFirst (outlined_text (base_of (O.writing out.old).style) (fields_part fields.entry) ++ codes "\n")
+    ensures { AddsFirst (outlined_text (base_of (O.writing out.old).style) (fields_part fields.entry) ++ codes "\n")
         (O.writing out.old) (O.writing out.new) }
-    ensures found { FindsNone (O.found out.old) (O.found out.new) }
 {
     match out.style() {
         Style::Lines(base) => out.first_named(&CustomLine { base, fields }, fields.name),
@@ -488,9 +470,8 @@ pub(crate) fn show_custom_event<O: Tree>(fields: CustomFields<'_>, out: &mut O)
 // Writes the line of an event that is no custom section, or its object. That of a body has the number and the name of its
 // function.
 fn show_other_event<O: Tree>(counts: &Counts, payload: &Payload<'_>, out: &mut O)
-    ensures adds { AddsFirst (numbered_line (base_of (O.writing out.old).style) counts.now (report_of payload.now))
+    ensures { AddsFirst (numbered_line (base_of (O.writing out.old).style) counts.now (report_of payload.now))
         (O.writing out.old) (O.writing out.new) }
-    ensures found { FindsNone (O.found out.old) (O.found out.new) }
 {
     match out.style() {
         Style::Lines(base) => {
@@ -508,9 +489,8 @@ fn show_other_event<O: Tree>(counts: &Counts, payload: &Payload<'_>, out: &mut O
 /// Writes the line of an event, or its object. That of a body has the number and the name of its function, and that of a
 /// custom section its name.
 pub(crate) fn show_event<O: Tree>(counts: &Counts, payload: &Payload<'_>, out: &mut O)
-    ensures adds { AddsFirst (numbered_line (base_of (O.writing out.old).style) counts.now (report_of payload.now))
+    ensures { AddsFirst (numbered_line (base_of (O.writing out.old).style) counts.now (report_of payload.now))
         (O.writing out.old) (O.writing out.new) }
-    ensures found { FindsNone (O.found out.old) (O.found out.new) }
 {
     match payload {
         Payload::CustomSection(section) => show_custom_event(fields_of(section), out),
@@ -520,10 +500,8 @@ pub(crate) fn show_event<O: Tree>(counts: &Counts, payload: &Payload<'_>, out: &
 
 /// Writes the line of the fault at which the stream ends, or its object.
 pub(crate) fn show_last_fault<O: Tree>(error: &Error, out: &mut O)
-    ensures adds { AddsFirst (line_in (base_of (O.writing out.old).style) (stream_end (fault (fault_at error.now))))
+    ensures { AddsFirst (line_in (base_of (O.writing out.old).style) (stream_end (fault (fault_at error.now))))
         (O.writing out.old) (O.writing out.new) }
-    ensures found { Finds (report_notes (stream_end (fault (fault_at error.now))))
-        (O.found out.old) (O.found out.new) }
 {
     match out.style() {
         Style::Lines(base) => out.first_of_function(&FaultLine { base, error }, None),

@@ -11,9 +11,11 @@ mod lines;
 mod linked;
 mod numbered;
 mod stream;
+mod walks;
 
 pub use collected::collect_names;
 pub use counts::{Counts, import_space};
 pub use events::{Only, Shown};
 pub use lines::write_payload;
-pub use stream::{dump, show_payload};
+pub use stream::{dump, show_payload, walk_payload};
+pub use walks::walk;

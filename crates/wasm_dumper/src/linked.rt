@@ -107,7 +107,7 @@ impl Linked {
 
     /// Passes a part that was skipped: a function body, or a section, whose name is not kept.
     pub(crate) fn pass_hidden(&mut self, is_body: bool)
-        ensures keeps { self.new.names ≡ self.old.names }
+        ensures { self.new.names ≡ self.old.names }
     {
         if !is_body {
             self.pass_section();
@@ -116,7 +116,7 @@ impl Linked {
 
     // Passes a section that has no name.
     fn pass_section(&mut self)
-        ensures keeps { self.new.names ≡ self.old.names }
+        ensures { self.new.names ≡ self.old.names }
     {
         self.section_count = self.section_count.saturating_add(1);
     }
@@ -420,11 +420,10 @@ pub(crate) fn learn_payload<O: Tree>(
     out: &mut O,
 ) -> Result<(), ListError>
     ensures keeps { OnOk result (O.writing out.new ≡ O.writing out.old) }
-    ensures found { OnOk result (O.found out.new ≡ O.found out.old) }
     ensures adds { Adds (O.writing out.old) (O.writing out.new) }
     ensures stops { IfErr result (λ why. (O.writing out.new).why ≡ Some why) }
 {
-    if O::ONLY_FAULTS || !shows_items(only) || payload.as_section().is_none() {
+    if !shows_items(only) || payload.as_section().is_none() {
         return Ok(());
     }
     let mut names = out.take_names().unwrap_or(ItemNames::new(alloc));
@@ -446,7 +445,6 @@ pub(crate) fn learn_skipped<O: Tree>(
     out: &mut O,
 ) -> Result<(), ListError>
     ensures keeps { OnOk result (O.writing out.new ≡ O.writing out.old) }
-    ensures found { OnOk result (O.found out.new ≡ O.found out.old) }
     ensures adds { Adds (O.writing out.old) (O.writing out.new) }
     ensures stops { IfErr result (λ why. (O.writing out.new).why ≡ Some why) }
 {

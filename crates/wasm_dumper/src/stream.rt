@@ -6,13 +6,12 @@ ghost use Rattle.wasm_streams.specs.Step.{Part as a_part};
 ghost use Rattle.wasm_parser.specs.ParseAnswer.{ItemsBegin, report_of};
 ghost use Rattle.wasm_io.specs.Calls.{device_of, from_to};
 ghost use Rattle.wasm_dumper.specs.Dump.{DumpsByTree, DumpsInto, ShowsAnswer, ShowsItems, ShowsItemsIf, ShowsReport, after_answer};
-ghost use Rattle.wasm_dumper.specs.Checks.{FindsAt, answer_notes, notes_if, report_faults, report_notes, shown_notes, site_note};
+ghost use Rattle.wasm_dumper.specs.Walks.{items_of_report, report_seen, site_of_report};
+ghost use Rattle.wasm_show.specs.Seen.{site_seen};
+ghost use Rattle.wasm_show.specs.Walk.{Sees};
 ghost use Rattle.wasm_dumper.specs.Dumping.{dump_stages, dumper};
-ghost use Rattle.wasm_dumper.specs.Hiding.{CountsOutline, FindsOutline, ShowsOutline};
+ghost use Rattle.wasm_dumper.specs.Hiding.{CountsOutline, ShowsOutline};
 ghost use Rattle.wasm_dumper.specs.declared.hidden.Outline.TheVariants.{Custom};
-ghost use Rattle.wasm_show.specs.Faults.{FindsFaults};
-ghost use Rattle.wasm_output.specs.Found.{Finds, FindsNone};
-ghost use Rattle.wasm_output.specs.Values.{note_of};
 ghost use Rattle.wasm_output.specs.Tree.{Adds, AddsBytes, IsOut};
 
 use crate::counts::Counts;
@@ -22,18 +21,18 @@ use crate::events::{
 };
 use crate::hidden::{CustomOutline, Outline, Skipped, drop_part, skip_unread};
 use crate::linked::{Linked, learn_payload, learn_skipped, stop};
-use crate::numbered::{show_groups, show_imports, show_numbered};
+use crate::numbered::{walk_groups, walk_imports, walk_numbered, walk_segments};
 use std::alloc::Global;
 use wasm_frames::Frame;
 use wasm_io::{ListError, Source};
-use wasm_output::{Offsets, Space, Tree, Within};
+use wasm_output::{Space, Tree};
 use wasm_parser::{Error, Payload};
-use wasm_show::{show_custom, show_section};
+use wasm_show::{Offsets, Walker, Within, show_custom, walk_custom, walk_section};
 use wasm_streams::{Ahead, Cursor, Ended, Visitor, seen, visit};
 
 // The place of the items of a payload.
 fn within<'a>(payload: &Payload<'a>) -> Within<'a>
-    ensures { note_of result ≡ site_note (report_of payload.now) }
+    ensures { site_seen result ≡ site_of_report (report_of payload.now) }
 {
     match payload {
         Payload::CustomSection(section) => Within::Custom(section.name()),
@@ -42,6 +41,62 @@ fn within<'a>(payload: &Payload<'a>) -> Within<'a>
             Some(name) => Within::Section(name),
             None => Within::Stream,
         },
+    }
+}
+
+/// Walks over the items of a payload, at level 1, with their numbers in their index spaces, after its section.
+///
+/// `counts` are those of the payloads before. Payloads without items have a section alone.
+///
+/// ```rattle
+/// let mut out = Offsets::new(alloc);
+/// let counts = Counts::new();
+/// for payload in Parser::new(0).parse_all(b"\0asm\x01\0\0\0\x07\x05\x01\x01f\0\x05") {
+///     if let Ok(payload) = payload {
+///         walk_payload(alloc, &counts, &payload, &mut out);
+///     }
+/// }
+/// let noted = out.into_noted().ok_or("out of memory")?;
+/// assert_eq!(rt; noted.as_slice(), [11].as_slice());
+/// ```
+pub fn walk_payload<W: Walker>(
+    alloc: Global,
+    counts: &Counts,
+    payload: &Payload<'_>,
+    walker: &mut W,
+)
+    // Proved: what a walker sees of a payload whose reader is at its items: its section, and each item of it with its
+    //   level, its offset and its number, in order, up to the first fault [`walk_payload` (`report_seen`)]
+    ensures { ItemsBegin payload.now → Sees W.saw W.why
+        (report_seen W.IS_DEEP counts.now (report_of payload.now)) walker.old walker.new }
+{
+    walker.enter(within(payload));
+    walk_items_of(alloc, counts, payload, walker);
+}
+
+// Walks over the items of a payload.
+#[inline(always)]
+fn walk_items_of<W: Walker>(alloc: Global, counts: &Counts, payload: &Payload<'_>, walker: &mut W)
+    ensures { ItemsBegin payload.now → Sees W.saw W.why
+        (items_of_report W.IS_DEEP counts.now (report_of payload.now)) walker.old walker.new }
+{
+    match payload {
+        Payload::TypeSection(section) => walk_groups(alloc, section, walker),
+        Payload::ImportSection(section) => walk_imports(counts, section, walker),
+        Payload::FunctionSection(section) => {
+            walk_numbered(Space::Functions, counts, section, walker);
+        }
+        Payload::TableSection(section) => walk_numbered(Space::Tables, counts, section, walker),
+        Payload::MemorySection(section) => walk_numbered(Space::Memories, counts, section, walker),
+        Payload::TagSection(section) => walk_numbered(Space::Tags, counts, section, walker),
+        Payload::GlobalSection(section) => walk_numbered(Space::Globals, counts, section, walker),
+        Payload::ExportSection(section) => walk_section(1, section, walker),
+        Payload::ElementSection(section) => walk_segments(section, walker),
+        Payload::DataSection(section) => {
+            walk_numbered(Space::DataSegments, counts, section, walker);
+        }
+        Payload::CustomSection(section) => walk_custom(alloc, 1, section, walker),
+        _ => {}
     }
 }
 
@@ -66,13 +121,13 @@ fn within<'a>(payload: &Payload<'a>) -> Within<'a>
 pub fn show_payload<O: Tree>(alloc: Global, counts: &Counts, payload: &Payload<'_>, out: &mut O)
     // Proved: the numbers of the items of a payload whose reader is at them, and that of one item [`show_payload`
     //   (`ShowsItems`, `AreOfItems`), `Tree::item_number` (`AddsNumber`)]
-    ensures shows { ItemsBegin payload.now
+    ensures { ItemsBegin payload.now
         → ShowsItems counts.now (report_of payload.now) (O.writing out.old) (O.writing out.new) }
-    ensures found { ItemsBegin payload.now
-        → Finds (report_notes (report_of payload.now)) (O.found out.old) (O.found out.new) }
 {
-    out.enter(within(payload));
-    show_items_of(alloc, counts, payload, out);
+    match payload {
+        Payload::CustomSection(section) => show_custom(alloc, section, out),
+        _ => walk_items_of(alloc, counts, payload, out),
+    }
 }
 
 // Writes the items of a payload, if items are shown.
@@ -84,37 +139,11 @@ fn show_payload_if<O: Tree>(
     payload: &Payload<'_>,
     out: &mut O,
 )
-    ensures shows { ItemsBegin payload.now → ShowsItemsIf has_items counts.now
+    ensures { ItemsBegin payload.now → ShowsItemsIf has_items counts.now
         (report_of payload.now) (O.writing out.old) (O.writing out.new) }
-    ensures found { ItemsBegin payload.now
-        → Finds (notes_if has_items (report_of payload.now)) (O.found out.old) (O.found out.new) }
 {
     if has_items {
         show_payload(alloc, counts, payload, out);
-    }
-}
-
-// Does what `show_payload` says, where the tree knows in which section the items are.
-#[inline(always)]
-fn show_items_of<O: Tree>(alloc: Global, counts: &Counts, payload: &Payload<'_>, out: &mut O)
-    ensures shows { ItemsBegin payload.now
-        → ShowsItems counts.now (report_of payload.now) (O.writing out.old) (O.writing out.new) }
-    ensures found { ItemsBegin payload.now
-        → FindsFaults (report_faults (report_of payload.now)) (O.found out.old) (O.found out.new) }
-{
-    match payload {
-        Payload::TypeSection(section) => show_groups(alloc, section, out),
-        Payload::ImportSection(section) => show_imports(counts, section, out),
-        Payload::FunctionSection(section) => show_numbered(Space::Functions, counts, section, out),
-        Payload::TableSection(section) => show_numbered(Space::Tables, counts, section, out),
-        Payload::MemorySection(section) => show_numbered(Space::Memories, counts, section, out),
-        Payload::TagSection(section) => show_numbered(Space::Tags, counts, section, out),
-        Payload::GlobalSection(section) => show_numbered(Space::Globals, counts, section, out),
-        Payload::ExportSection(section) => show_section(1, section, out),
-        Payload::ElementSection(section) => show_numbered(Space::Elements, counts, section, out),
-        Payload::DataSection(section) => show_numbered(Space::DataSegments, counts, section, out),
-        Payload::CustomSection(section) => show_custom(alloc, section, out),
-        _ => {}
     }
 }
 
@@ -122,7 +151,7 @@ fn show_items_of<O: Tree>(alloc: Global, counts: &Counts, payload: &Payload<'_>,
 // allocation fails.
 fn offsets_of_items(alloc: Global, counts: &Counts, payload: &Payload<'_>) -> Option<Vec<u64>> {
     let mut offsets = Offsets::new(alloc);
-    show_payload(alloc, counts, payload, &mut offsets);
+    walk_payload(alloc, counts, payload, &mut offsets);
     offsets.into_noted()
 }
 
@@ -144,9 +173,8 @@ fn show_bytes<O: Tree>(
     payload: &Payload<'_>,
     out: &mut O,
 )
-    ensures adds { AddsBytes (if has_bytes then part.entry.bytes.now else [])
+    ensures { AddsBytes (if has_bytes then part.entry.bytes.now else [])
         (O.writing out.old) (O.writing out.new) }
-    ensures found { FindsNone (O.found out.old) (O.found out.new) }
 {
     if has_bytes {
         match offsets_of_items(alloc, counts, payload) {
@@ -168,12 +196,9 @@ fn show_chosen<O: Tree>(
     payload: &Payload<'_>,
     out: &mut O,
 )
-    ensures shows { ItemsBegin payload.now → ShowsReport shown.entry.only.now shown.entry.has_bytes
+    ensures { ItemsBegin payload.now → ShowsReport shown.entry.only.now shown.entry.has_bytes
         counts.now (report_of payload.now) part.entry.bytes.now
         (O.writing out.old) (O.writing out.new) }
-    ensures found { ItemsBegin payload.now → Finds
-        (shown_notes shown.entry.only.now (report_of payload.now))
-        (O.found out.old) (O.found out.new) }
 {
     if chooses(shown.only, payload) {
         show_bytes(alloc, shown.has_bytes, counts, part, payload, out);
@@ -197,9 +222,6 @@ fn show_part<O: Tree>(
         (O.writing out.old) (O.writing out.new) }
     ensures counts { ItemsBegin payload.now → counts.new
         ≡ after_answer counts.old (a_part (report_of payload.now) part.entry.bytes.now) }
-    ensures found { ItemsBegin payload.now → Finds (answer_notes shown.entry.only.now
-        (a_part (report_of payload.now) part.entry.bytes.now))
-        (O.found out.old) (O.found out.new) }
 {
     show_chosen(alloc, shown, counts, part, payload, out);
     counts.pass(payload);
@@ -213,10 +235,8 @@ fn show_outline<O: Tree>(
     section: &CustomOutline,
     out: &mut O,
 )
-    ensures shows { ShowsOutline shown.entry.only.now shown.entry.has_bytes counts.now (Custom section.now)
+    ensures { ShowsOutline shown.entry.only.now shown.entry.has_bytes counts.now (Custom section.now)
         (O.writing out.old) (O.writing out.new) }
-    ensures found { FindsOutline shown.entry.only.now shown.entry.has_bytes (Custom section.now)
-        (O.found out.old) (O.found out.new) }
 {
     let payload = section.without_data();
     note_found(shown, &payload);
@@ -233,12 +253,10 @@ fn show_skipped<O: Tree>(
     out: &mut O,
 )
     // Proved: what is shown and counted of a part that was skipped is what is shown and counted of its event, whatever its
-    //   other bytes are [`stream::show_skipped` (`ShowsOutline`, `CountsOutline`, `FindsOutline`)]
+    //   other bytes are [`stream::show_skipped` (`ShowsOutline`, `CountsOutline`)]
     ensures shows { ShowsOutline shown.entry.only.now shown.entry.has_bytes counts.old outline.now
         (O.writing out.old) (O.writing out.new) }
     ensures counts { CountsOutline shown.entry.only.now shown.entry.has_bytes outline.now counts.old counts.new }
-    ensures found { FindsOutline shown.entry.only.now shown.entry.has_bytes outline.now
-        (O.found out.old) (O.found out.new) }
 {
     match outline {
         Outline::Hidden { is_body } => counts.pass_hidden(*is_body),
@@ -263,7 +281,6 @@ fn flush<O: Tree>(out: &mut O) -> Result<(), ListError>
     ensures out { IsOut (O.writing out.new) }
     ensures ok { OnOk result ((O.writing out.new).why ≡ None) }
     ensures err { IfErr result (λ why. (O.writing out.new).why ≡ Some why) }
-    ensures found { FindsNone (O.found out.old) (O.found out.new) }
 {
     out.write_out();
     go_on(out)
@@ -284,7 +301,7 @@ struct Dumper<'a> {
 
 impl<'a, O: Tree> Visitor<Global, O> for Dumper<'a> {
     ghost stages = { dump_stages (dumper (λ d. d.shown.only.now) (λ d. d.shown.has_bytes)
-        (λ d. d.counts) O.writing O.found) };
+        (λ d. d.counts) O.writing) };
 
     ghost sound = { λ d. Unit {0} };
 
@@ -354,8 +371,7 @@ impl<'a, O: Tree> Visitor<Global, O> for Dumper<'a> {
 /// and the number of its function. Under it each item has a line, indented by two blanks a level, with its number in its
 /// index space. Offsets and sizes are in bytes, offsets from the start of the stream. If bytes are shown, they are in
 /// rows before the lines that are read from them.
-/// On a tree of objects each line is a JSON object. On one that keeps faults alone, only malformed items have lines, and
-/// the fault at which the stream ends.
+/// On a tree of objects each line is a JSON object.
 ///
 /// It reads at most `piece` bytes at once, which must be at least 1. The tree must not have written anything. It
 /// buffers the last chunk, the undecided bytes, which are less than a part, and the lines that are not written yet, at
@@ -418,18 +434,15 @@ pub fn dump<R: Source, O: Tree>(
     // Proved: an import's number is how many imports of its index space came before; a body's, how many imported
     //   functions and bodies did [the same]
     // Proved: the numbers of another section's items continue from the imports of its space [the same]
-    // Proved: of each section that is shown a dump has the first numbers, up to a fault or where the dump stopped,
-    //   and of others none [the same]
+    // Proved: of each section that is shown a dump has the number of each item, up to the first fault, or the first
+    //   of them where the dump stopped; of others none [the same (`AreOfItems`, `AreShown`)]
     // Proved: a dump ends as the listing does: at the end, at the fault of the stream, or when a device or an
     //   allocation failed, which it reports [`DumpsByTree` (`ListsBy`)]
     // Proved: if the source failed, all but the last event is written [the same (`Writes`)]
     // Proved: at another error a prefix is written [the same (`WritesSome`)]
-    ensures dumps { DumpsByTree shown.entry.only.now shown.entry.has_bytes
+    ensures { DumpsByTree shown.entry.only.now shown.entry.has_bytes
         (device_of R.remaining R.has_failed input.old input.new)
         (O.writing out.old) result (O.writing out.new) }
-    ensures found { FindsAt shown.entry.only.now
-        (from_to (R.remaining input.old) (R.remaining input.new)) result
-        (O.found out.old) (O.writing out.new) (O.found out.new) }
 {
     let buffer = vec![in alloc; 0u8; piece]?;
     let mut dumper = Dumper {

@@ -1,9 +1,9 @@
 pub mod Common
 pub mod EscapedBytes
-pub mod Finding
 pub mod ForCallers
 pub mod Json
 pub mod MemberTexts
 pub mod Naming
+pub mod Putting
 pub mod Saying
 pub mod Writing

@@ -1,8 +1,6 @@
 pub mod Fields
-pub mod Found
 pub mod ItemNames
 pub mod Json
-pub mod Notes
 pub mod Numbers
 pub mod Rows
 pub mod Said

@@ -1,8 +1,6 @@
 -- The numbers of items in their index spaces. Core specification, Syntax, Modules, Indices.
-use Rattle.std.specs.Prelude.{◌≡◌, ℕ, zero, suc, ◌+◌, ◌-◌, ◌^◌, min, List, [], ◌∷◌, ◌++◌}
-use Rattle.std.specs.Prelude.{codes, decimal, Option, Some, None, Ok, Err}
-use Rattle.wasm_base.specs.Outcome.{Outcome}
-use Rattle.wasm_base.specs.Window.{Place}
+use Rattle.std.specs.Prelude.{◌≡◌, ℕ, ◌+◌, ◌-◌, ◌^◌, min, List, [], ◌∷◌, ◌++◌}
+use Rattle.std.specs.Prelude.{codes, decimal, Option, Some, None}
 use Rattle.wasm_io.specs.declared.devices.ListError.{ListError}
 use Rattle.wasm_output.specs.declared.numbers.Space.{Space}
 use Rattle.wasm_output.specs.declared.numbers.Space.TheVariants.{Types, Functions, Tables, Memories, Tags}
@@ -38,31 +36,6 @@ blank_numbers (n ∷ later) rest = codes " " ++ number_text n (blank_numbers lat
 -- `n` more; a count stops at the greatest number of 64 bits, above every index
 abbrev pub more : ℕ → ℕ → ℕ
 more count n = min (count + n) (2 ^ 64 - 1)
-
--- this many numbers of an index space, from this one on
-abbrev pub numbers_from : Space → (first count : ℕ) → List Number
-numbers_from space first zero = []
-numbers_from space first (suc n) = numbers_from space first n ++ record { space = space; index = more first n } ∷ []
-
--- the numbers of an item, and those of what comes after it; a fault has none, and nothing comes after it
-abbrev pub with_later : (Place → ℕ) → Outcome ℕ → ℕ
-with_later later (Ok x) = x.0 + later x.1
-with_later later (Err f) = 0
-
--- | how many numbers items have, as they are read up to the first fault <Sections; this project>
--- how many numbers the items from a place on have, of `left` announced ones, up to the first fault; the reading says
--- how many an item has
-abbrev pub numbers_read : (reading : Place → Outcome ℕ) (left : ℕ) → Place → ℕ
-numbers_read reading zero p = 0
-numbers_read reading (suc left) p = with_later (λ q. numbers_read reading left q) (reading p)
-
--- The numbers are some of this index space, from this one on.
-abbrev pub AreFrom : Space → (first : ℕ) → List Number → Type 0
-AreFrom space first shown = (count : ℕ) × (shown ≡ numbers_from space first count)
-
--- The numbers from the first one up to the next one.
-abbrev pub AreUpTo : Space → (first next : ℕ) → List Number → Type 0
-AreUpTo space first next shown = (count : ℕ) × (shown ≡ numbers_from space first count) × (next ≡ more first count)
 
 -- The numbers begin these.
 abbrev pub Begin : (shown all : List Number) → Type 0

@@ -5,7 +5,8 @@ use Rattle.wasm_io.specs.Page.{IsCut}
 use Rattle.wasm_io.specs.declared.devices.ListError.{ListError}
 use Rattle.wasm_io.specs.declared.digits.Base.{Base}
 use Rattle.wasm_output.specs.Fields.{Field, with_fields}
-use Rattle.wasm_output.specs.Tree.{Writing, IsPushed, are_lines, base_of}
+use Rattle.wasm_output.specs.Tree.{Put, Writing, IsPushed, are_lines, base_of, of_objects, with_rest}
+use Rattle.wasm_output.specs.declared.objects.Spot.TheVariants.{Outside}
 
 -- The writer stopped on the way: a prefix of what waited and of this text was written, and no more could be.
 pub record StopsIn (text : List ℕ) (why : ListError) (since now : Writing) : Type 0 where
@@ -56,3 +57,18 @@ SaysSome old new = (since : Writing) → HasMore since old → HasMore since new
 abbrev pub SaysWith : (fields : List ℕ → List Field) → (old new : Writing) → Type 0
 SaysWith fields old new = (since : Writing) (before : List ℕ) → HasLine since before old
     → (value : List ℕ) × HasLine since (with_fields (base_of since.style) before (fields value)) new
+
+-- ---- texts that an output puts
+
+-- an output as what has written no objects
+abbrev pub as_writing : Put → Writing
+as_writing put = with_rest (of_objects Outside) put
+
+-- This text was put since, as far as the output could.
+abbrev pub HasPut : (since : Put) (text : List ℕ) (now : Put) → Type 0
+HasPut since text now = PutsText since.why now.why text (as_writing since) (as_writing now)
+
+-- | what is put on an output, after the other texts [`HasPut`]
+-- This text was put after the others.
+abbrev pub PutsMore : (text : List ℕ) (old new : Put) → Type 0
+PutsMore text old new = (since : Put) (before : List ℕ) → HasPut since before old → HasPut since (before ++ text) new

@@ -4,10 +4,6 @@ use Rattle.std.specs.Prelude.{Err, nat_eq, if◌then◌else◌}
 use Rattle.std.specs.Option.{unwrap_or}
 use Rattle.std.specs.List.{flat_map, list_all, list_any}
 use Rattle.std.specs.Io.KnownBytes.{Appends}
-use Rattle.wasm_base.specs.Item.{ReadsAs}
-use Rattle.wasm_base.specs.Outcome.{Outcome}
-use Rattle.wasm_base.specs.Section.{Section}
-use Rattle.wasm_base.specs.Window.{Place, place}
 use Rattle.wasm_io.specs.Calls.{output_failed}
 use Rattle.wasm_io.specs.Offsets.{offset_text}
 use Rattle.wasm_io.specs.Page.{IsCut, PutsBytes}
@@ -15,8 +11,7 @@ use Rattle.wasm_io.specs.declared.devices.ListError.{ListError}
 use Rattle.wasm_io.specs.declared.digits.Base.{Base}
 use Rattle.wasm_io.specs.declared.digits.Base.TheVariants.{Decimal}
 use Rattle.wasm_output.specs.Fields.{hexadecimal, quoted_text}
-use Rattle.wasm_output.specs.Numbers.{Number, blank_numbers, number_text, numbers_from, numbers_read}
-use Rattle.wasm_output.specs.Numbers.{AreShown, AreFrom, AreUpTo}
+use Rattle.wasm_output.specs.Numbers.{AreShown, Number, blank_numbers, number_text}
 use Rattle.wasm_output.specs.declared.numbers.Space.{Space}
 use Rattle.wasm_io.specs.declared.devices.ListError.TheVariants.{Input, Memory}
 use Rattle.wasm_output.specs.Json.{AreObjects, IsAt, after_all, start}
@@ -306,21 +301,6 @@ AddsNumbers allowed old new = (o : Origin) → IsWritten o old
 -- They are all of these, or a prefix if the writer has stopped.
 abbrev pub AddsAll : List Number → (old new : Writing) → Type 0
 AddsAll all old new = AddsNumbers (λ shown. AreShown new.why shown all) old new
-
--- They are those of the items of a section by whatever reading agrees with what the items mean, from this one on.
-abbrev pub AddsItems : {T : Type 0} → (Place → Outcome T → Type 0) → (size : T → ℕ) → Space → (from : ℕ) → Section
-    → (old new : Writing) → Type 0
-AddsItems {T} meaning size space from section old new = (reading : Place → Outcome ℕ)
-    → ((p : Place) (o : Outcome T) → meaning p o → ReadsAs size reading p o)
-    → AddsAll (numbers_from space from (numbers_read reading section.count (place section.reader))) old new
-
--- They are some of an index space, from this one on.
-abbrev pub AddsNext : Space → (from : ℕ) (old new : Writing) → Type 0
-AddsNext space from old new = AddsNumbers (λ shown. AreFrom space from shown) old new
-
--- Like `AddsNext`, up to this next number.
-abbrev pub AddsUpTo : Space → (from next : ℕ) (old new : Writing) → Type 0
-AddsUpTo space from next old new = AddsNumbers (λ shown. AreUpTo space from next shown) old new
 
 -- ---- bytes
 

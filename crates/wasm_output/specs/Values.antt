@@ -1,14 +1,11 @@
 -- The arguments of a tree's calls.
 use Rattle.std.specs.Prelude.{Bool, false}
 use Rattle.wasm_output.specs.Fields.{Value, flag, nothing, number, quoted, range, signed, word}
-use Rattle.wasm_output.specs.Notes.{Note, enters, unknown, outside, section, custom}
 use Rattle.wasm_output.specs.Tree.{has_line_feed}
 use Rattle.wasm_output.specs.declared.tree.Value.{Value as Given}
 use Rattle.wasm_output.specs.declared.tree.Value.TheVariants as given
 use Rattle.wasm_output.specs.declared.tree.Start.{Start}
 use Rattle.wasm_output.specs.declared.tree.Start.TheVariants as start
-use Rattle.wasm_output.specs.declared.tree.Within.{Within}
-use Rattle.wasm_output.specs.declared.tree.Within.TheVariants as within
 
 -- the value of a field in the terms of `Fields`
 abbrev pub value_of : Given → Value
@@ -30,10 +27,3 @@ abbrev pub start_breaks_line : Start → Bool
 start_breaks_line (start.Word text) = has_line_feed text.now
 start_breaks_line (start.Field name) = has_line_feed name.now
 start_breaks_line other = false
-
--- the note that says where the items are which follow
-abbrev pub note_of : Within → Note
-note_of within.Stream = enters outside
-note_of (within.Section name) = enters (section name.now)
-note_of (within.Custom name) = enters (custom name.now)
-note_of (within.Unknown id offset) = unknown id offset

@@ -6,7 +6,6 @@ ghost use Rattle.wasm_io.specs.Offsets.{offset_text};
 ghost use Rattle.wasm_io.specs.declared.digits.Base.TheVariants.{Decimal};
 ghost use Rattle.wasm_output.specs.Fields.{alone, field_start, field_text, named, quoted_byte, quoted_text, value_text, whole_field_text};
 ghost use Rattle.wasm_output.specs.Said.{Says, SaysInBase, SaysSome};
-ghost use Rattle.wasm_output.specs.Found.{knows_none};
 ghost use Rattle.wasm_output.specs.Tree.{Adds, AddsBytes, AddsFirst, IsOut, has_line_feed, name_text, starts};
 ghost use Rattle.wasm_output.specs.Values.{breaks_line, value_of};
 ghost use Rattle.wasm_output.specs.Written.{lines};
@@ -18,9 +17,8 @@ use crate::output::Output;
 use crate::plain::{FieldStart, NumberField, Plain, Quoted};
 use crate::rows::Rows;
 use crate::short::{Offset, flag_word, signed_of};
-use crate::tree::{Start, Style, Tree, Value, Within, is_default};
+use crate::tree::{Start, Style, Tree, Value, is_default};
 use std::alloc::Global;
-use wasm_base::Error;
 use wasm_io::{Base, ListError, ShortText, Sink};
 
 /// A tree that writes lines of text to a sink, indented by two blanks a level. It buffers at most 65,536 bytes.
@@ -369,14 +367,6 @@ impl<W: Sink> TextLines<W> {
 impl<W: Sink> Tree for TextLines<W> {
     ghost writing = { λ t. lines t };
 
-    ghost found = { λ t. None };
-
-    ghost ONLY_FAULTS = { false };
-
-    ghost knows = { λ t. knows_none (lines t) };
-
-    const ONLY_FAULTS: bool = false;
-
     fn stopped(&self) -> Option<ListError> {
         self.output.stopped()
     }
@@ -527,8 +517,4 @@ impl<W: Sink> Tree for TextLines<W> {
             Err(_) => self.output.out_of_memory(),
         }
     }
-
-    fn enter(&mut self, _within: Within<'_>) {}
-
-    fn note_fault(&mut self, _error: &Error) {}
 }

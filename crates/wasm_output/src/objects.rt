@@ -3,7 +3,6 @@ ghost use Rattle.std.specs.List.{list_any};
 ghost use Rattle.std.specs.Prelude.{◌≡◌, ◌≤◌, ◌<◌, false, length, true, None};
 ghost use Rattle.wasm_output.specs.Fields.{is_escaped};
 ghost use Rattle.wasm_output.specs.Json.{escaped_byte, is_in_string, Leads};
-ghost use Rattle.wasm_output.specs.Found.{knows_none};
 ghost use Rattle.wasm_output.specs.Tree.{Adds, starts_objects};
 ghost use Rattle.wasm_output.specs.Written.{objects};
 ghost use Rattle.wasm_output.specs.declared.objects.Spot.TheVariants.{Outside, Ended, InName, AtValue, InText};
@@ -17,9 +16,8 @@ use crate::numbers::Space;
 use crate::output::Output;
 use crate::plain::Plain;
 use crate::short::{Two, flag_word, signed_of};
-use crate::tree::{Start, Style, Tree, Value, Within};
+use crate::tree::{Start, Style, Tree, Value};
 use std::alloc::Global;
-use wasm_base::Error;
 use wasm_io::{ListError, ShortText, Sink};
 
 /// Where a tree of objects is.
@@ -397,14 +395,6 @@ impl<W: Sink> Objects<W> {
 impl<W: Sink> Tree for Objects<W> {
     ghost writing = { λ t. objects t };
 
-    ghost found = { λ t. None };
-
-    ghost ONLY_FAULTS = { false };
-
-    ghost knows = { λ t. knows_none (objects t) };
-
-    const ONLY_FAULTS: bool = false;
-
     fn stopped(&self) -> Option<ListError> {
         self.output.stopped()
     }
@@ -504,8 +494,4 @@ impl<W: Sink> Tree for Objects<W> {
     fn first_named<T: ShortText>(&mut self, _text: &T, _name: &str) {}
 
     fn begin_part(&mut self, _alloc: Global, _offset: u64, _bytes: &[u8], _cuts: Vec<u64>) {}
-
-    fn enter(&mut self, _within: Within<'_>) {}
-
-    fn note_fault(&mut self, _error: &Error) {}
 }

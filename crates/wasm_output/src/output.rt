@@ -2,17 +2,30 @@
 ghost use Rattle.std.specs.Prelude.{◌≡◌, ◌≤◌, [], None, length};
 ghost use Rattle.std.specs.List.{flat_map};
 ghost use Rattle.wasm_output.specs.Fields.{quoted_byte, quoted_text};
-ghost use Rattle.wasm_output.specs.Found.{PutsMore};
+ghost use Rattle.wasm_io.specs.Offsets.{offset_text};
+ghost use Rattle.wasm_output.specs.Said.{PutsMore};
 ghost use Rattle.wasm_output.specs.Tree.{Put, Puts, Rest, stopped_without_memory, with_rest};
 
 use crate::escapes::{PAGE_BYTES, hexadecimal_digits, is_escaped, plain_count};
+use crate::short::Offset;
 use std::alloc::Global;
 use std::marker::Model;
-use wasm_io::{ListError, Page, ShortText, Sink};
+use wasm_io::{Base, ListError, Page, ShortText, Sink};
 
-/// A sink, and the bytes that wait for it until there are many. Where the sink fails, or an allocation does, it stops,
-/// and nothing more is written.
-pub(crate) struct Output<W: Sink> {
+/// A sink, and the bytes that wait for it until there are many: at most 65,536.
+///
+/// No call returns an error. Where the sink fails, or an allocation does, the output stops, and nothing more is written.
+///
+/// ```rattle
+/// let mut out = Output::new(alloc, BoundedSink::new(alloc, 1000)?);
+/// out.put_offset(Base::Hexadecimal, 60);
+/// out.put_long(b": ");
+/// out.put_quoted("a\nb");
+/// out.write_out();
+/// assert_eq!(rt; out.stopped(), None);
+/// assert_eq!(rt; out.into_sink().written(), b"0x3c: \"a\\0ab\"".as_slice());
+/// ```
+pub struct Output<W: Sink> {
     sink: W,
     page: Page,
     why: Option<ListError>,
@@ -27,8 +40,8 @@ impl<W: Sink> Model for Output<W> {
 }
 
 impl<W: Sink> Output<W> {
-    /// An output to this sink, to which nothing is written yet.
-    pub(crate) fn new(alloc: Global, sink: W) -> Output<W>
+    /// Creates an output to this sink. Nothing is written yet.
+    pub fn new(alloc: Global, sink: W) -> Output<W>
         ensures { result ≡ record {
           taken = W.taken sink;
           waiting = [];
@@ -43,8 +56,8 @@ impl<W: Sink> Output<W> {
         }
     }
 
-    /// The sink, with what was written to it. What waits is not.
-    pub(crate) fn into_sink(self) -> W
+    /// Returns the sink, with what was written to it. Bytes that wait are dropped: call `write_out` first.
+    pub fn into_sink(self) -> W
         ensures taken { W.taken result ≡ self.taken }
         ensures failed { W.has_failed result ≡ self.has_failed }
     {
@@ -56,8 +69,8 @@ impl<W: Sink> Output<W> {
         sink
     }
 
-    /// Why the output has stopped, if it has.
-    pub(crate) fn stopped(&self) -> Option<ListError>
+    /// Returns why the output has stopped, if it has: `Output` or `Memory`.
+    pub fn stopped(&self) -> Option<ListError>
         ensures { result ≡ self.now.why }
     {
         self.why
@@ -71,8 +84,8 @@ impl<W: Sink> Output<W> {
         self.page.len()
     }
 
-    /// Stops, since an allocation failed, unless the output has stopped.
-    pub(crate) fn out_of_memory(&mut self)
+    /// Stops the output because an allocation failed, unless it has stopped.
+    pub fn out_of_memory(&mut self)
         ensures { self.new ≡ stopped_without_memory self.old }
     {
         if self.why.is_none() {
@@ -107,8 +120,8 @@ impl<W: Sink> Output<W> {
         }
     }
 
-    /// Writes what waits, unless the output has stopped.
-    pub(crate) fn write_out(&mut self)
+    /// Writes the bytes that wait to the sink, unless the output has stopped.
+    pub fn write_out(&mut self)
         ensures puts { (rest : Rest) → Puts [] (with_rest rest self.old) (with_rest rest self.new) }
         ensures all { self.new.why ≡ None → self.new.waiting ≡ [] }
     {
@@ -129,14 +142,14 @@ impl<W: Sink> Output<W> {
     }
 
     /// Puts a short text after the others.
-    pub(crate) fn put_short<T: ShortText>(&mut self, text: &T)
+    pub fn put_short<T: ShortText>(&mut self, text: &T)
         ensures { PutsMore (T.text text.now) self.old self.new }
     {
         self.put_text(text);
     }
 
     /// Puts bytes after the others, however many.
-    pub(crate) fn put_long(&mut self, bytes: &[u8])
+    pub fn put_long(&mut self, bytes: &[u8])
         ensures { PutsMore bytes.now self.old self.new }
     {
         let mut rest = bytes;
@@ -178,8 +191,15 @@ impl<W: Sink> Output<W> {
         }
     }
 
-    /// Puts a text in quotes.
-    pub(crate) fn put_quoted(&mut self, text: &str)
+    /// Puts an offset, in bytes from the start of the stream, in this base.
+    pub fn put_offset(&mut self, base: Base, offset: u64)
+        ensures { PutsMore (offset_text base offset) self.old self.new }
+    {
+        self.put_short(&Offset { base, offset });
+    }
+
+    /// Puts a text in double quotes, where `"`, `\` and bytes outside 32 to 126 are `\` and two hexadecimal digits.
+    pub fn put_quoted(&mut self, text: &str)
         ensures { PutsMore (quoted_text text.now) self.old self.new }
     {
         self.put_more(b"\"");

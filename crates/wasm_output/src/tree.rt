@@ -6,14 +6,11 @@ ghost use Rattle.std.specs.Option.{is_some};
 ghost use Rattle.wasm_output.specs.Fields.{alone, cut_mark, field_start, field_text, named, number as number_value, word as word_value, quoted, raw};
 ghost use Rattle.wasm_output.specs.Fields.{range, signed as signed_value, flag as flag_value, number_if_any as optional, hexadecimal, is_default as is_default_value};
 ghost use Rattle.wasm_io.specs.Offsets.{offset_text};
-ghost use Rattle.wasm_base.specs.FaultAt.{fault_at};
-ghost use Rattle.wasm_output.specs.Found.{AreOut, Finds, FindsNone, HasStopped};
-ghost use Rattle.wasm_output.specs.Notes.{faulty};
 ghost use Rattle.wasm_output.specs.Said.{Says, SaysInBase, SaysSome};
 ghost use Rattle.wasm_output.specs.Tree.{Adds, AddsBytes, AddsFirst, AddsNumber, IsOut, Writing, are_lines, has_line_feed};
 ghost use Rattle.wasm_output.specs.declared.objects.Spot.TheVariants.{Outside};
 ghost use Rattle.wasm_output.specs.declared.tree.Style.TheVariants.{Objects};
-ghost use Rattle.wasm_output.specs.Values.{breaks_line, note_of, start_breaks_line, value_of};
+ghost use Rattle.wasm_output.specs.Values.{breaks_line, start_breaks_line, value_of};
 
 use crate::escapes::{GROUP, digits_of};
 use crate::known_names::ItemNames;
@@ -78,19 +75,6 @@ pub enum Value<'a> {
     Nothing,
 }
 
-/// The place of the items that are written.
-#[derive(Clone, Copy)]
-pub enum Within<'a> {
-    /// No section: the stream itself.
-    Stream,
-    /// The section with this name (core specification, Binary format, Modules, Sections).
-    Section(&'static str),
-    /// The custom section with this name.
-    Custom(&'a str),
-    /// A section with an unknown id, whose content begins at this offset of the stream.
-    Unknown(u8, u64),
-}
-
 /// Whether lines leave out a field with this value: `false`, or no value.
 pub(crate) fn is_default(value: Value<'_>) -> bool
     ensures { result ≡ is_default_value (value_of value.entry) }
@@ -125,23 +109,8 @@ pub(crate) fn is_default(value: Value<'_>) -> bool
 pub trait Tree {
     // A tree owns its sink: had it a `&mut`, the checker would know nothing of the sink once a call has taken the tree.
 
-    ghost use Rattle.std.specs.Prelude.{Bool, Option};
-    ghost use Rattle.wasm_output.specs.Found.{KnowsFaults, Noted};
-
     /// What it has written.
     ghost writing: { Self → Writing };
-
-    /// What it has noted, if it keeps faults alone.
-    ghost found: { Self → Option Noted };
-
-    /// The constant `ONLY_FAULTS`, for clauses.
-    ghost ONLY_FAULTS: { Bool };
-
-    /// A tree that keeps faults alone has no format, and no other tree notes faults.
-    ghost knows: { (t : Self) → KnowsFaults ONLY_FAULTS (writing t) (found t) };
-
-    /// Whether the tree keeps faults alone. Then what writes items on it leaves out their fields.
-    const ONLY_FAULTS: bool;
 
     /// Returns why the tree has stopped, if it has: `Output` or `Memory`.
     fn stopped(&self) -> Option<ListError>
@@ -157,17 +126,14 @@ pub trait Tree {
         //   and of each call that shows (`Adds`); `first` of `TextLines` (`AddsFirst`)]
         ensures adds { Adds (writing self.old) (writing self.new) }
         ensures style { (writing self.new).style ≡ (writing self.old).style }
-        ensures stops { is_some (writing self.new).why ≡ true }
-        ensures found { FindsNone (found self.old) (found self.new) };
+        ensures stops { is_some (writing self.new).why ≡ true };
 
     /// Writes the buffered bytes to the sink. Ends the current line first, and shows the remaining bytes of
     /// `begin_part`.
     fn write_out(&mut self)
         ensures adds { Adds (writing self.old) (writing self.new) }
         // Proved: a writer stops if its sink fails or an allocation does
-        ensures out { IsOut (writing self.new) }
-        ensures found { FindsNone (found self.old) (found self.new) }
-        ensures lines { AreOut (found self.new) };
+        ensures out { IsOut (writing self.new) };
 
     /// Ends the current line, if one is begun.
     fn end(&mut self)
@@ -175,45 +141,39 @@ pub trait Tree {
         ensures style { (writing self.new).style ≡ (writing self.old).style }
         ensures ended { are_lines (writing self.new).style ≡ true
             → (writing self.new).is_begun ≡ false }
-        ensures outside { (writing self.new).style ≡ Objects → (writing self.new).spot ≡ Outside }
-        ensures found { FindsNone (found self.old) (found self.new) };
+        ensures outside { (writing self.new).style ≡ Objects → (writing self.new).spot ≡ Outside };
 
     /// Begins a line at this level. A line of level 1 is under a line of the first level, and so on. Ends the current
     /// line first.
     fn begin_line(&mut self, level: usize, start: Start<'_>)
         requires one_line { start_breaks_line start ≡ false }
-        ensures adds { Adds (writing self.old) (writing self.new) }
-        ensures found { FindsNone (found self.old) (found self.new) };
+        ensures { Adds (writing self.old) (writing self.new) };
 
     /// Writes bytes of a text, without a line feed, as they are. In objects they belong to the current field.
     fn bytes(&mut self, bytes: &[u8])
         requires one_line { has_line_feed bytes.now ≡ false }
         ensures adds { Adds (writing self.old) (writing self.new) }
         ensures says { Says bytes.now (writing self.old) (writing self.new) }
-        ensures some { SaysSome (writing self.old) (writing self.new) }
-        ensures found { FindsNone (found self.old) (found self.new) };
+        ensures some { SaysSome (writing self.old) (writing self.new) };
 
     /// Writes a number in decimal digits.
     fn digits(&mut self, number: u64)
         ensures adds { Adds (writing self.old) (writing self.new) }
         ensures says { Says (decimal number) (writing self.old) (writing self.new) }
-        ensures some { SaysSome (writing self.old) (writing self.new) }
-        ensures found { FindsNone (found self.old) (found self.new) };
+        ensures some { SaysSome (writing self.old) (writing self.new) };
 
     /// Writes an offset, in bytes from the start of the stream: in the base of the lines, or in decimal digits.
     fn offset(&mut self, offset: u64)
         ensures adds { Adds (writing self.old) (writing self.new) }
         ensures says { SaysInBase (λ base. offset_text base offset) (writing self.old) (writing self.new) }
-        ensures some { SaysSome (writing self.old) (writing self.new) }
-        ensures found { FindsNone (found self.old) (found self.new) };
+        ensures some { SaysSome (writing self.old) (writing self.new) };
 
     /// Begins a field, whose value is the texts that the next calls write. In lines, writes a blank, the name and `=`.
     fn begin_field(&mut self, name: &str)
         requires one_line { has_line_feed name.now ≡ false }
         ensures adds { Adds (writing self.old) (writing self.new) }
         ensures says { Says (field_start name.now) (writing self.old) (writing self.new) }
-        ensures some { SaysSome (writing self.old) (writing self.new) }
-        ensures found { FindsNone (found self.old) (found self.new) };
+        ensures some { SaysSome (writing self.old) (writing self.new) };
 
     /// Writes a field: its name and its value.
     fn field(&mut self, name: &str, value: Value<'_>)
@@ -225,8 +185,7 @@ pub trait Tree {
         //   (`SaysInBase`, `field_text`)]
         // Proved: a field that is `false` or has no value is left out [the same]
         ensures says { SaysInBase (field_text (named name.now (value_of value.entry)))
-            (writing self.old) (writing self.new) }
-        ensures found { FindsNone (found self.old) (found self.new) };
+            (writing self.old) (writing self.new) };
 
     /// Writes a word as the value of a field, without the name of the field in lines.
     fn label(&mut self, name: &str, word: &str)
@@ -235,42 +194,35 @@ pub trait Tree {
         ensures adds { Adds (writing self.old) (writing self.new) }
         // Proved: a word or a label is a space and the word [`says` of `Tree::word` and `Tree::label` (`SaysInBase`,
         //   `field_text`)]
-        ensures says { SaysInBase (field_text (alone word.now)) (writing self.old) (writing self.new) }
-        ensures found { FindsNone (found self.old) (found self.new) };
+        ensures says { SaysInBase (field_text (alone word.now)) (writing self.old) (writing self.new) };
 
     /// Writes the number of an item, as `func[5]`, and its name after it, if the tree has one.
     fn item_number(&mut self, space: Space, index: u64)
-        ensures adds { AddsNumber space index (writing self.old) (writing self.new) }
-        ensures found { FindsNone (found self.old) (found self.new) };
+        ensures { AddsNumber space index (writing self.old) (writing self.new) };
 
     /// Writes the name of an item, if the tree has one: in lines after a blank, in objects as a field.
     fn item_name(&mut self, space: Space, index: u64)
-        ensures adds { Adds (writing self.old) (writing self.new) }
-        ensures found { FindsNone (found self.old) (found self.new) };
+        ensures { Adds (writing self.old) (writing self.new) };
 
     /// Takes the names of items out of the tree, if it has some: until they are set again, it shows none.
     fn take_names(&mut self) -> Option<ItemNames>
-        ensures same { writing self.new ≡ writing self.old }
-        ensures found { found self.new ≡ found self.old };
+        ensures { writing self.new ≡ writing self.old };
 
-    /// Sets the names of items that the tree shows from now on. A tree without fields drops them.
+    /// Sets the names of items that the tree shows from now on.
     fn set_names(&mut self, names: ItemNames)
-        ensures same { writing self.new ≡ writing self.old }
-        ensures found { found self.new ≡ found self.old };
+        ensures { writing self.new ≡ writing self.old };
 
     /// Writes a line of the first level: this text, and the name of the function with this index, if the tree has one.
     ///
     /// The text may end with numbers of items. A tree of objects writes nothing.
     fn first_of_function<T: ShortText>(&mut self, text: &T, function: Option<u64>)
-        ensures adds { AddsFirst (T.text text.now ++ codes "\n") (writing self.old) (writing self.new) }
-        ensures found { FindsNone (found self.old) (found self.new) };
+        ensures { AddsFirst (T.text text.now ++ codes "\n") (writing self.old) (writing self.new) };
 
     /// Writes a line of the first level: this text, and this name in quotes after a blank.
     ///
     /// The text may end with numbers of items. A tree of objects writes nothing.
     fn first_named<T: ShortText>(&mut self, text: &T, name: &str)
-        ensures adds { AddsFirst (T.text text.now ++ codes "\n") (writing self.old) (writing self.new) }
-        ensures found { FindsNone (found self.old) (found self.new) };
+        ensures { AddsFirst (T.text text.now ++ codes "\n") (writing self.old) (writing self.new) };
 
     /// Shows the bytes of a part of the stream, in rows of hexadecimal digits, between the lines that follow.
     ///
@@ -278,31 +230,18 @@ pub trait Tree {
     /// offsets at which items begin; `write_out`, or the next part, shows the rest. A tree of objects does not show
     /// bytes.
     fn begin_part(&mut self, alloc: Global, offset: u64, bytes: &[u8], cuts: Vec<u64>)
-        ensures adds { AddsBytes bytes.now (writing self.old) (writing self.new) }
-        ensures found { FindsNone (found self.old) (found self.new) };
-
-    /// Says where the items that follow are. Only a tree of faults alone writes that, after the faults that follow.
-    fn enter(&mut self, within: Within<'_>)
-        ensures adds { Adds (writing self.old) (writing self.new) }
-        ensures found { Finds (note_of within.entry ∷ []) (found self.old) (found self.new) };
-
-    /// Notes a fault. A tree of faults alone writes its line; other trees do nothing here.
-    fn note_fault(&mut self, error: &Error)
-        ensures adds { Adds (writing self.old) (writing self.new) }
-        ensures found { Finds (faulty (fault_at error.now) ∷ []) (found self.old) (found self.new) };
+        ensures { AddsBytes bytes.now (writing self.old) (writing self.new) };
 
     /// Returns whether the tree has stopped.
     final fn has_stopped(&self) -> bool
-        ensures is { result ≡ is_some (writing self.now).why }
-        ensures found { result ≡ true → HasStopped (found self.now) }
+        ensures { result ≡ is_some (writing self.now).why }
     {
         self.stopped().is_some()
     }
 
     /// Begins the line of an item whose bytes begin at this offset, in bytes from the start of the stream.
     final fn item(&mut self, level: usize, offset: u64)
-        ensures adds { Adds (writing self.old) (writing self.new) }
-        ensures found { FindsNone (found self.old) (found self.new) }
+        ensures { Adds (writing self.old) (writing self.new) }
     {
         self.begin_line(level, Start::Item(offset));
     }
@@ -310,8 +249,7 @@ pub trait Tree {
     /// Begins a line with this word.
     final fn line(&mut self, level: usize, word: &str)
         requires one_line { has_line_feed word.now ≡ false }
-        ensures adds { Adds (writing self.old) (writing self.new) }
-        ensures found { FindsNone (found self.old) (found self.new) }
+        ensures { Adds (writing self.old) (writing self.new) }
     {
         self.begin_line(level, Start::Word(word));
     }
@@ -331,7 +269,6 @@ pub trait Tree {
         ensures adds { Adds (writing self.old) (writing self.new) }
         ensures says { Says text.now (writing self.old) (writing self.new) }
         ensures some { SaysSome (writing self.old) (writing self.new) }
-        ensures found { FindsNone (found self.old) (found self.new) }
     {
         self.bytes(text.as_bytes());
     }
@@ -440,7 +377,6 @@ pub trait Tree {
         ensures adds { Adds (writing self.old) (writing self.new) }
         ensures says { SaysInBase (field_text (named name.now (flag_value flag)))
             (writing self.old) (writing self.new) }
-        ensures found { FindsNone (found self.old) (found self.new) }
     {
         self.field(name, Value::Flag(flag));
     }
@@ -452,7 +388,6 @@ pub trait Tree {
         ensures adds { Adds (writing self.old) (writing self.new) }
         ensures says { SaysInBase (field_text (named name.now (quoted text.now)))
             (writing self.old) (writing self.new) }
-        ensures found { FindsNone (found self.old) (found self.new) }
     {
         self.field(name, Value::Quoted(text));
     }
@@ -497,17 +432,6 @@ pub trait Tree {
 
     /// Writes a line for a fault, at this level.
     final fn fault(&mut self, level: usize, error: &Error)
-        ensures adds { Adds (writing self.old) (writing self.new) }
-        ensures found { Finds (faulty (fault_at error.now) ∷ []) (found self.old) (found self.new) }
-    {
-        self.note_fault(error);
-        if !Self::ONLY_FAULTS {
-            self.fault_line(level, error);
-        }
-    }
-
-    /// Writes a fault in the format of the tree, on a line of its own at this level.
-    final fn fault_line(&mut self, level: usize, error: &Error)
         ensures { Adds (writing self.old) (writing self.new) }
     {
         self.begin_line(level, Start::Empty);

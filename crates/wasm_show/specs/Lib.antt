@@ -1,7 +1,10 @@
 pub mod CustomText
 pub mod ExprText
-pub mod Faults
 pub mod FlagText
 pub mod ItemText
+pub mod Lists
+pub mod Noted
+pub mod Seen
 pub mod SymbolText
 pub mod TypeText
+pub mod Walk

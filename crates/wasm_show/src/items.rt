@@ -8,11 +8,14 @@ ghost use Rattle.wasm_output.specs.Fields.{field_text};
 ghost use Rattle.wasm_show.specs.ItemText.{export_fields, import_fields, kind_field, kind_word as word_of_kind, type_ref_fields};
 ghost use Rattle.wasm_output.specs.Said.{SaysFields, SaysInBase, SaysWith};
 ghost use Rattle.wasm_output.specs.Tree.{Adds, has_line_feed};
+ghost use Rattle.wasm_show.specs.Lists.{element_seen};
+ghost use Rattle.wasm_show.specs.Walk.{Sees};
 
 use crate::expressions::show_expr;
-use crate::lists::{show_extent, show_fault, show_list, show_section, under};
+use crate::lists::{show_extent, show_fault, show_list, show_section, under, walk_section};
 use crate::show::Show;
 use crate::types::wide;
+use crate::walker::Walker;
 use wasm_base::{Result, SectionLimited};
 use wasm_items::{
     Data, DataKind, Element, ElementItems, ElementKind, Export, ExternalKind, Global as GlobalItem,
@@ -286,5 +289,15 @@ impl Show for Data<'_> {
         show_data_kind(&self.kind, out);
         out.raw("data", self.bytes);
         out.range("range", self.range.start, self.range.end);
+    }
+}
+
+/// Walks over the functions or the expressions of an element segment, which are at this level.
+pub fn walk_elements<W: Walker>(level: usize, element: &Element<'_>, walker: &mut W)
+    ensures { Sees W.saw W.why (element_seen W.IS_DEEP level element.now) walker.old walker.new }
+{
+    match &element.items {
+        ElementItems::Functions(indices) => walk_section(level, indices, walker),
+        ElementItems::Expressions(_, expressions) => walk_section(level, expressions, walker),
     }
 }

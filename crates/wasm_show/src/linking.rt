@@ -1,24 +1,27 @@
 // Texts of the sections `linking`, `reloc.*` and `dylink.0`, and of their items.
 ghost use Rattle.std.specs.Prelude.{◌≡◌, false};
 ghost use Rattle.wasm_show.specs.CustomText.{mem_info_fields};
-ghost use Rattle.wasm_show.specs.Faults.{FindsFaults, dylink_faults, linking_faults, linking_section_faults, relocations_faults};
-ghost use Rattle.wasm_output.specs.Found.{FindsNone};
+ghost use Rattle.wasm_custom.specs.Linking.{comdat_at};
+ghost use Rattle.wasm_show.specs.Lists.{comdat_seen, linking_section_seen, linking_seen, listing};
+ghost use Rattle.wasm_show.specs.Walk.{Sees};
 ghost use Rattle.wasm_output.specs.Said.{SaysFields};
 ghost use Rattle.wasm_show.specs.SymbolText.{comdat_kind_word, comdat_symbol_fields, export_info_fields, import_info_fields, init_fields, relocation_fields, relocation_type_word, segment_fields};
 ghost use Rattle.wasm_output.specs.Tree.{Adds, has_line_feed};
 
 use crate::flags::{show_segment_flags, show_symbol_flags};
 use crate::lists::{
-    Items, placed, show_extent, show_items, show_lines, show_list, show_section, under,
+    Found, Items, placed, show_extent, show_items, show_lines, show_list, under, walk_items,
+    walk_section, without_number,
 };
 use crate::names::show_unknown;
 use crate::show::Show;
 use crate::symbols::show_symbols;
+use crate::walker::Walker;
 use bitflags::Flags;
-use wasm_base::{Result, Subsections};
+use wasm_base::{Result, SectionLimitedIntoIterWithOffsets, Subsections};
 use wasm_custom::{
-    Comdat, ComdatSymbol, ComdatSymbolKind, Dylink0SectionReader, Dylink0Subsection, ExportInfo,
-    ImportInfo, InitFunc, Linking, LinkingSectionReader, MemInfo, RelocSectionReader,
+    Comdat, ComdatMap, ComdatSymbol, ComdatSymbolKind, Dylink0SectionReader, Dylink0Subsection,
+    ExportInfo, ImportInfo, InitFunc, Linking, LinkingSectionReader, MemInfo, RelocSectionReader,
     RelocationEntry, RelocationType, Segment,
 };
 use wasm_output::{Space, Tree};
@@ -110,7 +113,7 @@ impl Show for Linking<'_> {
     }
 }
 
-// The subsections of a section `linking`. Reading one only reads the count of its list.
+// The subsections of a section `linking`.
 #[derive(Drop)]
 struct LinkingItems<'a> {
     subsections: Subsections<'a, Linking<'a>>,
@@ -119,84 +122,112 @@ struct LinkingItems<'a> {
 impl<'a> Items for LinkingItems<'a> {
     ghost use Rattle.std.specs.Prelude.{length};
     ghost use Rattle.wasm_base.specs.Window.{place};
-    ghost use Rattle.wasm_show.specs.Faults.{OwesLinking, linking_faults};
+    ghost use Rattle.wasm_show.specs.Lists.{OwesLinking, linking_seen};
 
     type Item = Linking<'a>;
 
-    ghost owes = { λ l. OwesLinking l.subsections };
+    ghost owes = { λ deep level l. OwesLinking deep level l.subsections };
 
-    ghost holds = { linking_faults };
+    ghost lists = { linking_seen };
 
     ghost most = { λ l. length (place l.subsections).rest };
 
-    fn next_item(&mut self) -> Option<Result<(u64, Linking<'a>)>> {
+    fn next_item(&mut self) -> Option<Result<Found<Linking<'a>>>> {
         let offset = self.subsections.original_position();
         placed(offset, self.subsections.next())
     }
 
-    fn show_lists<O: Tree>(level: usize, item: &Linking<'a>, out: &mut O) {
-        show_listed(level, item, out);
+    fn walk_lists<W: Walker>(level: usize, item: &Linking<'a>, walker: &mut W) {
+        walk_listed(level, item, walker);
     }
 }
 
-// Writes the faults of the list of a subsection on a tree that keeps faults alone.
-fn show_listed<O: Tree>(level: usize, item: &Linking<'_>, out: &mut O)
-    ensures adds { Adds (O.writing out.old) (O.writing out.new) }
-    ensures found { FindsFaults (linking_faults item.now) (O.found out.old) (O.found out.new) }
+// The comdats of a list.
+#[derive(Drop)]
+struct Comdats<'a> {
+    comdats: SectionLimitedIntoIterWithOffsets<'a, Comdat<'a>>,
+}
+
+impl<'a> Items for Comdats<'a> {
+    ghost use Rattle.wasm_base.specs.Section.{most_items};
+    ghost use Rattle.wasm_custom.specs.Linking.{comdat_at};
+    ghost use Rattle.wasm_show.specs.Lists.{OwesListing, comdat_seen, symbols_of_comdat};
+
+    type Item = Comdat<'a>;
+
+    ghost owes = { λ deep level c. OwesListing comdat_seen comdat_at deep level c.comdats };
+
+    ghost lists = { symbols_of_comdat };
+
+    ghost most = { λ c. most_items c.comdats };
+
+    fn next_item(&mut self) -> Option<Result<Found<Comdat<'a>>>> {
+        without_number(self.comdats.next())
+    }
+
+    fn walk_lists<W: Walker>(level: usize, item: &Comdat<'a>, walker: &mut W) {
+        walk_section(level, &item.symbols, walker);
+    }
+}
+
+// Walks over the comdats of a list.
+fn walk_comdats<W: Walker>(level: usize, section: &ComdatMap<'_>, walker: &mut W)
+    ensures { Sees W.saw W.why (listing comdat_seen W.IS_DEEP level comdat_at section.now)
+        walker.old walker.new }
+{
+    let comdats = section.clone().unwrap().into_iter_with_offsets();
+    walk_items(level, Comdats { comdats }, walker);
+}
+
+// Walks over the items of the list of a subsection.
+fn walk_listed<W: Walker>(level: usize, item: &Linking<'_>, walker: &mut W)
+    ensures { Sees W.saw W.why (linking_seen W.IS_DEEP level item.now) walker.old walker.new }
 {
     match item {
-        Linking::SegmentInfo(segments) => show_section(level, segments, out),
-        Linking::InitFuncs(functions) => show_section(level, functions, out),
-        Linking::ComdatInfo(comdats) => show_section(level, comdats, out),
-        Linking::SymbolTable(symbols) => show_symbols(level, symbols, out),
+        Linking::SegmentInfo(segments) => walk_section(level, segments, walker),
+        Linking::InitFuncs(functions) => walk_section(level, functions, walker),
+        Linking::ComdatInfo(comdats) => walk_comdats(level, comdats, walker),
+        Linking::SymbolTable(symbols) => walk_section(level, symbols, walker),
         Linking::TargetArch(_) => {}
         Linking::Unknown { .. } => {}
     }
 }
 
+/// Walks over the subsections of a section `linking` at this level.
+pub(crate) fn walk_linking<W: Walker>(
+    level: usize,
+    section: &LinkingSectionReader<'_>,
+    walker: &mut W,
+)
+    ensures { Sees W.saw W.why (linking_section_seen W.IS_DEEP level section.now)
+        walker.old walker.new }
+{
+    let subsections = section.subsections();
+    walk_items(level, LinkingItems { subsections }, walker);
+}
+
 // Writes the fields of a section `linking`.
 fn show_head<O: Tree>(section: &LinkingSectionReader<'_>, out: &mut O)
-    ensures adds { Adds (O.writing out.old) (O.writing out.new) }
-    ensures found { FindsNone (O.found out.old) (O.found out.new) }
+    ensures { Adds (O.writing out.old) (O.writing out.new) }
 {
-    if O::ONLY_FAULTS {
-        return;
-    }
     let range = section.range();
     out.number("version", u64::from(section.version()));
     out.range("range", range.start, range.end);
     out.number("subsections", section.original_position());
 }
 
-/// Writes a section `linking`, and its subsections on lines under the current line.
-pub(crate) fn show_linking<O: Tree>(level: usize, section: &LinkingSectionReader<'_>, out: &mut O)
-    ensures adds { Adds (O.writing out.old) (O.writing out.new) }
-    ensures found { FindsFaults (linking_section_faults section.now) (O.found out.old) (O.found out.new) }
-{
-    show_head(section, out);
-    let subsections = section.subsections();
-    show_items(under(level), LinkingItems { subsections }, out);
-}
-
 /// Writes the subsections on lines under the current line.
 impl Show for LinkingSectionReader<'_> {
     fn show<O: Tree>(&self, level: usize, out: &mut O) {
-        show_linking(level, self, out);
+        show_head(self, out);
+        show_items(under(level), self.subsections(), out);
     }
-}
-
-/// Writes the subsections of a section `dylink.0` on lines under the current line.
-pub(crate) fn show_dylink<O: Tree>(level: usize, section: &Dylink0SectionReader<'_>, out: &mut O)
-    ensures adds { Adds (O.writing out.old) (O.writing out.new) }
-    ensures found { FindsFaults (dylink_faults section.now) (O.found out.old) (O.found out.new) }
-{
-    show_items(under(level), section.clone().unwrap(), out);
 }
 
 /// Writes the subsections on lines under the current line.
 impl Show for Dylink0SectionReader<'_> {
     fn show<O: Tree>(&self, level: usize, out: &mut O) {
-        show_dylink(level, self, out);
+        show_items(under(level), self.clone().unwrap(), out);
     }
 }
 
@@ -340,29 +371,17 @@ impl Show for RelocationEntry {
 
 // Writes the fields of a section of relocations.
 fn show_relocated<O: Tree>(section: &RelocSectionReader<'_>, out: &mut O)
-    ensures adds { Adds (O.writing out.old) (O.writing out.new) }
-    ensures found { FindsNone (O.found out.old) (O.found out.new) }
+    ensures { Adds (O.writing out.old) (O.writing out.new) }
 {
-    if O::ONLY_FAULTS {
-        return;
-    }
     let range = section.range();
     out.number("section", u64::from(section.section_index()));
     out.range("range", range.start, range.end);
 }
 
-/// Writes a section of relocations, and these on lines under the current line.
-pub(crate) fn show_relocations<O: Tree>(level: usize, section: &RelocSectionReader<'_>, out: &mut O)
-    ensures adds { Adds (O.writing out.old) (O.writing out.new) }
-    ensures found { FindsFaults (relocations_faults section.now) (O.found out.old) (O.found out.new) }
-{
-    show_relocated(section, out);
-    show_list("entries", level, &section.entries(), out);
-}
-
 /// Writes the relocations on lines under the current line.
 impl Show for RelocSectionReader<'_> {
     fn show<O: Tree>(&self, level: usize, out: &mut O) {
-        show_relocations(level, self, out);
+        show_relocated(self, out);
+        show_list("entries", level, &self.entries(), out);
     }
 }

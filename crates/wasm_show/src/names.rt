@@ -1,12 +1,14 @@
 // Texts of names.
 ghost use Rattle.std.specs.Prelude.{◌≡◌, false};
 ghost use Rattle.wasm_show.specs.CustomText.{naming_fields};
-ghost use Rattle.wasm_show.specs.Faults.{FindsFaults, name_faults};
+ghost use Rattle.wasm_show.specs.Lists.{name_seen};
+ghost use Rattle.wasm_show.specs.Walk.{Sees};
 ghost use Rattle.wasm_output.specs.Said.{SaysFields};
 ghost use Rattle.wasm_output.specs.Tree.{Adds, has_line_feed};
 
-use crate::lists::{show_items, under};
+use crate::lists::{show_items, under, walk_items};
 use crate::show::Show;
+use crate::walker::Walker;
 use std::ops::Range;
 use wasm_custom::{IndirectNameMap, IndirectNaming, Name, NameMap, Naming};
 use wasm_output::Tree;
@@ -72,25 +74,24 @@ fn show_module_name<O: Tree>(name: &str, range: &Range<u64>, out: &mut O)
     out.range("range", range.start, range.end);
 }
 
-/// Writes the faults of the names of a subsection on a tree that keeps faults alone.
-pub(crate) fn show_maps<O: Tree>(level: usize, name: &Name<'_>, out: &mut O)
-    ensures adds { Adds (O.writing out.old) (O.writing out.new) }
-    ensures found { FindsFaults (name_faults name.now) (O.found out.old) (O.found out.new) }
+/// Walks over the names of a subsection at this level.
+pub(crate) fn walk_names<W: Walker>(level: usize, name: &Name<'_>, walker: &mut W)
+    ensures { Sees W.saw W.why (name_seen W.IS_DEEP level name.now) walker.old walker.new }
 {
     match name {
-        Name::Function(names) => show_items(level, names.clone().unwrap(), out),
-        Name::Types(names) => show_items(level, names.clone().unwrap(), out),
-        Name::Table(names) => show_items(level, names.clone().unwrap(), out),
-        Name::Memory(names) => show_items(level, names.clone().unwrap(), out),
-        Name::Global(names) => show_items(level, names.clone().unwrap(), out),
-        Name::Element(names) => show_items(level, names.clone().unwrap(), out),
-        Name::Data(names) => show_items(level, names.clone().unwrap(), out),
-        Name::Tag(names) => show_items(level, names.clone().unwrap(), out),
-        Name::Local(names) => show_items(level, names.clone().unwrap(), out),
-        Name::Label(names) => show_items(level, names.clone().unwrap(), out),
-        Name::Field(names) => show_items(level, names.clone().unwrap(), out),
-        Name::Parameter(names) => show_items(level, names.clone().unwrap(), out),
-        Name::TagParameter(names) => show_items(level, names.clone().unwrap(), out),
+        Name::Function(names) => walk_items(level, names.clone().unwrap(), walker),
+        Name::Types(names) => walk_items(level, names.clone().unwrap(), walker),
+        Name::Table(names) => walk_items(level, names.clone().unwrap(), walker),
+        Name::Memory(names) => walk_items(level, names.clone().unwrap(), walker),
+        Name::Global(names) => walk_items(level, names.clone().unwrap(), walker),
+        Name::Element(names) => walk_items(level, names.clone().unwrap(), walker),
+        Name::Data(names) => walk_items(level, names.clone().unwrap(), walker),
+        Name::Tag(names) => walk_items(level, names.clone().unwrap(), walker),
+        Name::Local(names) => walk_items(level, names.clone().unwrap(), walker),
+        Name::Label(names) => walk_items(level, names.clone().unwrap(), walker),
+        Name::Field(names) => walk_items(level, names.clone().unwrap(), walker),
+        Name::Parameter(names) => walk_items(level, names.clone().unwrap(), walker),
+        Name::TagParameter(names) => walk_items(level, names.clone().unwrap(), walker),
         Name::Module { .. } => {}
         Name::Unknown { .. } => {}
     }

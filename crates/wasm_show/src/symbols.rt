@@ -1,14 +1,14 @@
 // Texts of symbols.
 ghost use Rattle.std.specs.Prelude.{◌≡◌, [], ◌∷◌, false};
-ghost use Rattle.wasm_custom.specs.Linking.{symbol_at, text_if_any};
-ghost use Rattle.wasm_show.specs.Faults.{FindsFaults, plainly, section_faults};
+ghost use Rattle.wasm_custom.specs.Linking.{text_if_any};
 ghost use Rattle.wasm_show.specs.SymbolText.{data_symbol_fields, defined_fields, indexed_fields, section_symbol_fields, symbol_fields, symbol_number};
 ghost use Rattle.wasm_output.specs.Said.{SaysFields};
 ghost use Rattle.wasm_output.specs.Tree.{Adds, has_line_feed};
 
 use crate::flags::show_symbol_flags;
-use crate::lists::{Items, show_items};
+use crate::lists::{Found, Items, show_items};
 use crate::show::Show;
+use crate::walker::Walker;
 use bitflags::Flags;
 use wasm_base::{Result, SectionLimitedIntoIterWithOffsets};
 use wasm_custom::{DefinedDataSymbol, SymbolInfo, SymbolInfoMap};
@@ -157,34 +157,36 @@ struct Symbols<'a> {
 
 impl<'a> Items for Symbols<'a> {
     ghost use Rattle.wasm_base.specs.Section.{most_items};
-    ghost use Rattle.wasm_show.specs.Faults.{OwesSymbols, no_lists};
+    ghost use Rattle.wasm_show.specs.Lists.{never_lists};
 
     type Item = NumberedSymbol<'a>;
 
-    ghost owes = { λ s. OwesSymbols s.symbols };
+    ghost owes = { λ deep level s all. ⊥ };
 
-    ghost holds = { no_lists };
+    ghost lists = { never_lists };
 
     ghost most = { λ s. most_items s.symbols };
 
-    fn next_item(&mut self) -> Option<Result<(u64, NumberedSymbol<'a>)>> {
+    fn next_item(&mut self) -> Option<Result<Found<NumberedSymbol<'a>>>> {
         let index = self.index;
         self.index = index.saturating_add(1);
         match self.symbols.next() {
-            Some(Ok((offset, symbol))) => Some(Ok((offset, NumberedSymbol { index, symbol }))),
+            Some(Ok((offset, symbol))) => Some(Ok((
+                offset,
+                None,
+                NumberedSymbol { index, symbol },
+            ))),
             Some(Err(error)) => Some(Err(error)),
             None => None,
         }
     }
 
-    fn show_lists<O: Tree>(_level: usize, _item: &NumberedSymbol<'a>, _out: &mut O) {}
+    fn walk_lists<W: Walker>(_level: usize, _item: &NumberedSymbol<'a>, _walker: &mut W) {}
 }
 
 /// Writes the symbols of a table, each on a line at this level, with its index.
 pub(crate) fn show_symbols<O: Tree>(level: usize, symbols: &SymbolInfoMap<'_>, out: &mut O)
     ensures adds { Adds (O.writing out.old) (O.writing out.new) }
-    ensures found { FindsFaults (section_faults (plainly symbol_at) symbols.now)
-        (O.found out.old) (O.found out.new) }
 {
     let symbols = symbols.clone().unwrap().into_iter_with_offsets();
     show_items(level, Symbols { symbols, index: 0 }, out);

@@ -1,5 +1,5 @@
 // The sections that `--section` chooses.
-ghost use Rattle.std.specs.Prelude.{◌≡◌, IfOk};
+ghost use Rattle.std.specs.Prelude.{IfOk};
 ghost use Rattle.wasm_commands.specs.Parsing.{texts};
 ghost use Rattle.wasm_commands.specs.Choices.{ChooseInTurn, Chooses};
 

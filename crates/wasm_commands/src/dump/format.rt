@@ -1,7 +1,6 @@
 // The format of a dump.
 ghost use Rattle.std.specs.Prelude.{◌≡◌, None};
-ghost use Rattle.wasm_commands.specs.ArgumentLists.{last_value};
-ghost use Rattle.wasm_commands.specs.Formats.{colors_asked, colors_when, format_asked, has_colors, offset_base, or_text, plain_format, unless_excluded};
+ghost use Rattle.wasm_commands.specs.Formats.{color_in, colors_asked, colors_when, format_asked, has_colors, offset_base, or_text, plain_format, unless_excluded};
 ghost use Rattle.wasm_commands.specs.Parsing.{reads_of};
 ghost use Rattle.wasm_commands.specs.declared.options.Flag.TheVariants as option;
 
@@ -78,8 +77,7 @@ fn colors_of<'a>(
     arguments: &Arguments<'a>,
     is_terminal: bool,
 ) -> Result<bool, Complaint<'a>>
-    ensures { or_text result
-        ≡ colors_asked verb (last_value option.Color None (reads_of arguments.now)) is_terminal }
+    ensures { or_text result ≡ colors_asked verb (color_in (reads_of arguments.now)) is_terminal }
 {
     match arguments.last(Flag::Color) {
         None => Ok(false),

@@ -1,10 +1,7 @@
 // Dumps an input to an output.
 ghost use Rattle.std.specs.Prelude.{◌≡◌, true, false};
 ghost use Rattle.std.specs.Io.KnownBytes.{Keeps};
-ghost use Rattle.wasm_commands.specs.Colors.{seen_as};
-ghost use Rattle.wasm_commands.specs.DumpRuns.{DumpsAs, Flushes, RunsDump};
-ghost use Rattle.wasm_commands.specs.Formats.{has_colors};
-ghost use Rattle.wasm_io.specs.Calls.{device_of, writer_device};
+ghost use Rattle.wasm_commands.specs.DumpRuns.{DumpsTo, Flushes, RunsTo};
 
 use super::colored::Colored;
 use super::format::Format;
@@ -52,8 +49,8 @@ fn dump_lines<R: Source, W: Write>(
     output: WriteSink<W>,
 ) -> (Result<Ended, ListError>, WriteSink<W>)
     requires { format.is_json ≡ false }
-    ensures { DumpsAs format shown.entry (device_of R.remaining R.has_failed input.old input.new)
-        (seen_as (has_colors format) (writer_device W.contents output result.1)) result.0 }
+    ensures { DumpsTo R.Source W.contents format shown.entry input.old input.new
+        output result.1 result.0 }
 {
     let colored = Colored::new(output, format.has_colors());
     let mut tree = TextLines::with_names(alloc, colored, format.base(), titles.names);
@@ -72,8 +69,8 @@ fn dump_objects<R: Source, W: Write>(
     output: WriteSink<W>,
 ) -> (Result<Ended, ListError>, WriteSink<W>)
     requires { format.is_json ≡ true }
-    ensures { DumpsAs format shown.entry (device_of R.remaining R.has_failed input.old input.new)
-        (seen_as (has_colors format) (writer_device W.contents output result.1)) result.0 }
+    ensures { DumpsTo R.Source W.contents format shown.entry input.old input.new
+        output result.1 result.0 }
 {
     let Titles { file, names } = titles;
     let mut tree = Objects::of_file(alloc, output, names, file);
@@ -90,8 +87,8 @@ fn dump_over<R: Source, W: Write>(
     input: &mut R,
     output: WriteSink<W>,
 ) -> (Result<Ended, ListError>, WriteSink<W>)
-    ensures { DumpsAs format shown.entry (device_of R.remaining R.has_failed input.old input.new)
-        (seen_as (has_colors format) (writer_device W.contents output result.1)) result.0 }
+    ensures { DumpsTo R.Source W.contents format shown.entry input.old input.new
+        output result.1 result.0 }
 {
     if format.is_json {
         dump_objects(alloc, shown, format, titles, input, output)
@@ -131,10 +128,8 @@ pub fn dump_as<R: Source, W: Write>(
     //   `Output` if that fails; after a dump that was given up it returns why
     // Proved: with colors, what the output received is the same text without its colors: no byte of
     //   the text is lost, changed or out of order [that of `dump_as` (`seen_as`)]
-    ensures { RunsDump format shown.entry
-        (device_of R.remaining R.has_failed input.old input.new)
-        (seen_as (has_colors format) (writer_device W.contents output result.1))
-        result.1.forwarded result.0 }
+    ensures { RunsTo R.Source W.contents format shown.entry input.old input.new
+        output result.1 result.0 }
 {
     let (how, mut output) = dump_over(alloc, shown, format, titles, input, output);
     let result = forward_all(how, &mut output);

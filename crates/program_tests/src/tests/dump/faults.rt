@@ -1,28 +1,26 @@
-// Dumps of streams on a tree that keeps faults alone.
+// Walks over streams that keep faults alone.
 use std::alloc::Global;
 use std::process::Abort;
 use std::test::Fail;
-use wasm_dumper::{Only, Shown, dump};
+use wasm_dumper::{Counts, walk, walk_payload};
 use wasm_io::{BoundedSink, ListError, SliceSource};
-use wasm_output::{Faults, Tree, Within};
-use wasm_parser::{Error, Fault};
+use wasm_parser::{Error, Fault, Parser, Payload};
+use wasm_show::{Faults, Walker, Within};
 use wasm_streams::Ended;
 
-// What is asked for: the sections, the beginning of each line, and whether nothing is written.
+// What is asked for: the beginning of each line, and whether nothing is written.
 #[derive(Clone, Copy)]
 struct Asked<'a> {
-    only: &'a [Only<'a>],
     prefix: &'a str,
     is_quiet: bool,
 }
 
 const ALL: Asked<'static> = Asked {
-    only: &[Only::All],
     prefix: "",
     is_quiet: false,
 };
 
-// How the dump of this stream ends, whether there was a fault, and the sink.
+// How the walk over this stream ends, whether there was a fault, and the sink.
 fn checked(
     alloc: Global,
     asked: Asked<'_>,
@@ -31,21 +29,17 @@ fn checked(
     piece: usize,
 ) -> Result<(Result<Ended, ListError>, bool, BoundedSink), Fail> {
     let prefix = String::from_str(alloc, asked.prefix)?;
-    let mut tree = Faults::new(
-        alloc,
-        BoundedSink::new(alloc, room)?,
-        prefix,
-        asked.is_quiet,
-    );
-    let shown = Shown {
-        only: asked.only,
-        has_bytes: false,
-        found: &[],
-    };
+    let sink = BoundedSink::new(alloc, room)?;
+    let mut faults = Faults::new(alloc, sink, prefix, asked.is_quiet);
     let mut input = SliceSource::new(stream);
-    let ended = dump(alloc, shown, &mut input, &mut tree, piece.max(1));
-    let found = tree.has_faults();
-    Ok((ended, found, tree.into_output()))
+    let ended = walk(alloc, &mut input, &mut faults, piece.max(1));
+    faults.write_out();
+    let ended = match faults.why_stopped() {
+        Some(why) => Err(why),
+        None => ended,
+    };
+    let found = faults.has_faults();
+    Ok((ended, found, faults.into_output()))
 }
 
 // The check of this stream ends so, and these faults are its own.
@@ -264,19 +258,24 @@ fn finds_each_fault(rt: HostRuntime) -> Result<(), Fail> {
     checks(&rt, rt.alloc(), quiet, SEVERAL, how, (true, b""))
 }
 
-// Only the section `name` is looked at, or none.
+// Only the section `name` is looked at.
 #[test]
 fn finds_faults_in_chosen_sections(rt: HostRuntime) -> Result<(), Fail> {
-    let stream = &SEVERAL[..28];
-    let name = Asked {
-        only: &[Only::Name("name")],
-        ..ALL
-    };
+    let alloc = rt.alloc();
+    let sink = BoundedSink::new(alloc, 1_000)?;
+    let mut faults = Faults::new(alloc, sink, String::new(alloc), false);
+    for answer in Parser::new(0).parse_all(SEVERAL) {
+        if let Ok(payload) = answer {
+            if matches!(&payload, Payload::CustomSection(_)) {
+                walk_payload(alloc, &Counts::new(), &payload, &mut faults);
+            }
+        }
+    }
+    faults.write_out();
     let text =
         b"0x15: names out of order, in custom section \"name\"\n0x18: name subsection out of order, in custom section \"name\"\n";
-    checks(&rt, rt.alloc(), name, stream, Ended::End, (true, text))?;
-    let none = Asked { only: &[], ..ALL };
-    checks(&rt, rt.alloc(), none, stream, Ended::End, (false, b""))
+    assert_eq!(rt; faults.into_output().written(), text.as_slice());
+    Ok(())
 }
 
 #[test]
@@ -339,7 +338,7 @@ fn writes_long_lines(rt: HostRuntime) -> Result<(), Fail> {
     let sink = BoundedSink::new(alloc, 300_000)?;
     let mut out = Faults::new(alloc, sink, prefix.clone()?, false);
     out.enter(Within::Custom(prefix.as_str()));
-    out.fault(1, &Error::new(Fault::UnexpectedEof, 1));
+    out.take_fault(1, &Error::new(Fault::UnexpectedEof, 1));
     out.write_out();
     let found = out.has_faults();
     let output = out.into_output();

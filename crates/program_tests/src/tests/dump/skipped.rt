@@ -5,10 +5,11 @@ use std::alloc::Global;
 use std::cell::Cell;
 use std::process::Abort;
 use std::test::Fail;
-use wasm_dumper::{Only, Shown, dump};
+use wasm_dumper::{Only, Shown, dump, walk};
 use wasm_io::{Base, BoundedSink, Failed, ListError, SliceSource, Source};
-use wasm_output::{Faults, ItemNames, Objects, Space, TextLines};
+use wasm_output::{ItemNames, Objects, Space, TextLines};
 use wasm_parser::{Error, Fault};
+use wasm_show::Faults;
 use wasm_streams::Ended;
 
 /// An imported function, two custom sections in turn, a function with its body, and a custom section whose name is a quote.
@@ -250,12 +251,13 @@ fn checks(
 ) -> Result<(), Fail> {
     for piece in [1, 7, 65_536] {
         let sink = BoundedSink::new(alloc, 1_000)?;
-        let mut tree = Faults::new(alloc, sink, String::new(alloc), false);
+        let mut faults = Faults::new(alloc, sink, String::new(alloc), false);
         let mut input = SliceSource::new(stream);
-        let ended = dump(alloc, all_of(&[]), &mut input, &mut tree, piece);
+        let ended = walk(alloc, &mut input, &mut faults, piece);
+        faults.write_out();
         assert!(rt; ended == Ok(how), "{piece}");
-        assert!(rt; tree.has_faults() == !text.is_empty(), "{piece}");
-        assert_eq!(rt; tree.into_output().written(), text, "{piece}");
+        assert!(rt; faults.has_faults() == !text.is_empty(), "{piece}");
+        assert_eq!(rt; faults.into_output().written(), text, "{piece}");
     }
     Ok(())
 }

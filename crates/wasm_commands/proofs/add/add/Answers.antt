@@ -6,7 +6,7 @@ returns-then-has g c = inl (
   c.in-Ok.prepared,
   c.prepare.new.self,
   c.in-Ok.ensures,
-  rw (sym c.has.ensures ∙ c.if-has.true, ← c.target_of-target.ensures, ← c.deref.ensures.value) c.replace_in.ensures,
+  rw (sym c.has.ensures ∙ c.if-has.true, ← c.target_of-target.ensures, ← c.deref.ensures.value) c.replace_in-ended.ensures,
 )
 
 pub returns : goal.returns

@@ -1,4 +1,4 @@
-use Rattle.std.proofs.Common.{◌≡◌, ◌∙◌, Err, ap, inl, refl, sym}
+use Rattle.std.proofs.Common.{◌∙◌, Err, ap, inl, refl, sym}
 use Rattle.wasm_commands.proofs.Steps.{granted}
 use Rattle.wasm_commands.specs.Formats.{or_text}
 use Rattle.wasm_commands.specs.Parsing.{reads_of}
@@ -25,24 +25,22 @@ returns g c =
         c.allocated.new.self,
         taken.0,
         record {
-          does = record {
-            plan = record {
-              verb = c.args.verb;
-              words = c.as_slice.result;
-              shown = record { only = c.as_slice-2.result; has_bytes = c.has.result; found = c.as_slice-3.result };
-              format = c.in-Ok.format;
-            };
-            asked = record {
-              of_verb = refl;
-              words = rw c.as_slice.ensures.value taken.1.words;
-              chooses = rw c.as_slice-2.ensures.value taken.1.chooses;
-              bytes = c.has.ensures;
-              formatted = refl;
-            };
-            shows = rw (c.as_slice-4.ensures.value, taken.1.names) at c.show_as.ensures.does;
+          plan = record {
+            verb = c.args.verb;
+            words = c.as_slice.result;
+            shown = record { only = c.as_slice-2.result; has_bytes = c.has.result; found = c.as_slice-3.result };
+            format = c.in-Ok.format;
+            is_titled = c.has_titles.result;
           };
-          forwards = c.show_as.ensures.forwards;
-          system = c.show_as.ensures.system;
+          asked = record {
+            of_verb = refl;
+            words = rw c.as_slice.ensures.value taken.1.words;
+            chooses = rw c.as_slice-2.ensures.value taken.1.chooses;
+            bytes = c.has.ensures;
+            formatted = refl;
+            titled = rw (c.as_slice-4.ensures.value, taken.1.names) at c.has_titles.ensures;
+          };
+          shows = rw (c.as_slice-5.ensures.value, taken.1.names) at c.use_files.ensures;
         },
       )),
     )

@@ -1,12 +1,5 @@
+use Rattle.std.proofs.Common.{inl}
 use Rattle.wasm_commands.proofs.dump.show_file.Goals as goal
 
-pub returns-clause-shows : goal.returns-clause-shows
-returns-clause-shows g c = record {
-  said = record {
-    bytes = g.E.Sink.taken c.show_once-status.new.errors;
-    failed = g.E.Sink.has_failed c.show_once-status.new.errors;
-  };
-  first = c.show_once-status.result.0;
-  dumps = c.show_once-status.ensures.shows;
-  warns = c.warn_after.ensures.warns;
-}
+pub returns-in-Ok : goal.returns-in-Ok
+returns-in-Ok g c = inl (tt, c.head.new.self, rw c.in-Ok.is at c.head.ensures, c.show_all.ensures)

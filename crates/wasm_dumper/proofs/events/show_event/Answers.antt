@@ -6,8 +6,8 @@ use Rattle.wasm_frames.specs.SkipNext.{Skip}
 use Rattle.wasm_dumper.proofs.Outlines.{custom_line}
 use Rattle.wasm_dumper.proofs.events.show_event.Goals as goal
 
-pub returns-in-CustomSection-clause-adds : goal.returns-in-CustomSection-clause-adds
-returns-in-CustomSection-clause-adds g c =
+pub returns-in-CustomSection : goal.returns-in-CustomSection
+returns-in-CustomSection g c =
     let s = c.in-CustomSection.section in
     let old = g.O.Tree.writing c.args.out.now in
     let new = g.O.Tree.writing c.show_custom_event.new.out in
@@ -15,4 +15,4 @@ returns-in-CustomSection-clause-adds g c =
     let line = custom_line base c.args.counts.now s.name (place s.reader).offset (unread s.reader) (fields_part c.fields_of.result)
     (ap (λ (x : Skip). Some x) (sym c.fields_of.ensures)) in
     subst (λ (r : Report). AddsFirst (numbered_line base c.args.counts.now r) old new) (ap report_of (sym c.in-CustomSection.is))
-    (subst (λ (x : List ℕ). AddsFirst x old new) (sym line) c.show_custom_event.ensures.adds)
+    (subst (λ (x : List ℕ). AddsFirst x old new) (sym line) c.show_custom_event.ensures)

@@ -1,7 +1,10 @@
-use Rattle.std.proofs.Common.{◌∷◌, []}
-use Rattle.wasm_output.proofs.ForCallers.{finds_then}
+use Rattle.wasm_dumper.proofs.Common.{◌≡◌, [], refl, report_of}
+use Rattle.wasm_dumper.proofs.Numbering.{not_custom, shows_none, shows_report}
 use Rattle.wasm_dumper.proofs.stream.show_payload.Goals as goal
 
-pub returns-clause-found : goal.returns-clause-found
-returns-clause-found g c begins =
-    finds_then (_ ∷ []) _ _ _ _ (rw c.within.ensures at c.enter.ensures.found) (c.show_items_of.ensures.found begins)
+pub returns-in-CustomSection : goal.returns-in-CustomSection
+returns-in-CustomSection g c begins = rw c.in-CustomSection.is (shows_none (λ shown. shown ≡ []) _ _ refl c.show_custom.ensures)
+
+pub returns-in_default : goal.returns-in_default
+returns-in_default g c begins = shows_report g.O.Tree.writing c.args.counts.now _ _ (report_of c.args.payload.now)
+    (not_custom c.args.payload.now c.in_default.not-CustomSection) (c.walk_items_of.ensures begins)

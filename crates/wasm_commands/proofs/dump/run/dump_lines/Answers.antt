@@ -9,7 +9,7 @@ pub returns : goal.returns
 returns g c =
     let format = c.args.format in
     let contents = g.W.Write.contents in
-    let d = c.dump-how.ensures.dumps (Lines c.base.result) _ _ c.with_names-tree.ensures in
+    let d = c.dump-how.ensures (Lines c.base.result) _ _ c.with_names-tree.ensures in
     let new = c.new-colored.ensures in
     let same = c.into_output-colored.ensures in
     let was : marked c.new-colored.result.is_colored (contents c.new-colored.result.inner.writer)

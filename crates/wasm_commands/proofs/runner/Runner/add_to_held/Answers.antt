@@ -1,4 +1,4 @@
-use Rattle.std.proofs.Common.{inl, inr, map, refl}
+use Rattle.std.proofs.Common.{inl, inr, map}
 use Rattle.std.proofs.lemmas.Result.{err_from_is_err_and}
 use Rattle.wasm_commands.proofs.Steps.{fault_is, granted, sound_is}
 use Rattle.wasm_commands.specs.RewriteCommands.{AddsTo, loaded_parts}

@@ -11,7 +11,7 @@ returns g c = inl (
     written = c.edit_into-edited.new.output;
     edited = c.edit_into-edited.result;
     writes = c.edit_into-edited.ensures;
-    whole = whole_written g.S.System g.S.Input.Source g.S.Output.Sink c.create.new.self.system c.args.edits.now c.args.original.now _ _
+    whole = whole_written g.S.System g.S.Input.Source c.create.new.self.system c.args.edits.now c.args.original.now _ _
         c.edit_into-edited.ensures;
     middle = c.end_file-ended.new.self;
     ended = c.end_file-ended.result;

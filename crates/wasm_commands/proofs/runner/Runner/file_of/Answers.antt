@@ -1,6 +1,7 @@
-use Rattle.wasm_commands.proofs.Operands.{takes_extra}
+use Rattle.std.proofs.Common.{inl}
 use Rattle.wasm_commands.proofs.runner.Runner.file_of.Goals as goal
 
-pub returns-in-len2-up : goal.returns-in-len2-up
-returns-in-len2-up g c =
-    takes_extra c.args.verb c.args.operands.now _ _ _ _ c.in-len2-up.len_at_least c.complain.ensures.status c.complain.ensures.tells
+pub returns : goal.returns
+returns g c =
+    let made = c.in_ok-operands.ensures in
+    inl (tt, c.operands.new.self, made.1, rw (c.deref.ensures.value, made.0) at c.only_of.ensures)

@@ -1,66 +1,34 @@
-use Rattle.std.proofs.Common.{◌≡◌, rules, inl, inr, refl}
+use Rattle.std.proofs.Common.{rules, inl, inr, refl}
 use Rattle.std.proofs.lemmas.Result.{err_from_is_err_and}
-use Rattle.wasm_commands.proofs.Steps.{granted}
-use Rattle.wasm_commands.specs.ArgumentLists.{operands_in}
-use Rattle.wasm_commands.specs.Parsing.{reads_of, texts}
 use Rattle.wasm_commands.proofs.runner.Runner.prepare.Goals as goal
-
-pub returns-in_err-additions : goal.returns-in_err-additions
-returns-in_err-additions g c =
-    let taken = granted (λ o. texts o.items ≡ operands_in (reads_of c.args.arguments.now)) c.operands.result c.in_ok-operands.operands
-    _ _ c.in_ok-operands.ensures c.operands.ensures in
-    inl (tt, c.allocated.new.self, taken.0, (search rules))
 
 pub returns-in_err-loaded : goal.returns-in_err-loaded
 returns-in_err-loaded g c =
-    let taken = granted (λ o. texts o.items ≡ operands_in (reads_of c.args.arguments.now)) c.operands.result c.in_ok-operands.operands
-    _ _ c.in_ok-operands.ensures c.operands.ensures in
     let e = err_from_is_err_and c.from_residual-in_err-loaded.result c.from_residual-in_err-loaded.ensures.1 in
     rw (e.1, e.2) (inl (
-      tt,
-      c.allocated.new.self,
-      taken.0,
-      inl (
-        (c.in_ok-additions.additions, c.in_ok-additions.file),
-        c.additions_of.new.self,
-        rw (c.deref.ensures.value, taken.1) at c.in_ok-additions.ensures,
-        inr (c.in_err-loaded.field-0.0, refl, rw c.deref-2.ensures.value at c.in_err-loaded.ensures),
-      ),
+      (c.in_ok-additions.additions, c.in_ok-additions.file),
+      c.additions_of.new.self,
+      c.in_ok-additions.ensures,
+      inr (c.in_err-loaded.field-0.0, refl, rw c.deref.ensures.value at c.in_err-loaded.ensures),
     ))
 
 pub returns-in_err-original : goal.returns-in_err-original
-returns-in_err-original g c =
-    let taken = granted (λ o. texts o.items ≡ operands_in (reads_of c.args.arguments.now)) c.operands.result c.in_ok-operands.operands
-    _ _ c.in_ok-operands.ensures c.operands.ensures in
-    inl (
-      tt,
-      c.allocated.new.self,
-      taken.0,
-      inl (
-        (c.in_ok-additions.additions, c.in_ok-additions.file),
-        c.additions_of.new.self,
-        rw (c.deref.ensures.value, taken.1) at c.in_ok-additions.ensures,
-        inl (c.in_ok-loaded.loaded, c.load_all.new.self, rw c.deref-2.ensures.value at c.in_ok-loaded.ensures, (search rules)),
-      ),
-    )
+returns-in_err-original g c = inl (
+  (c.in_ok-additions.additions, c.in_ok-additions.file),
+  c.additions_of.new.self,
+  c.in_ok-additions.ensures,
+  inl (c.in_ok-loaded.loaded, c.load_all.new.self, rw c.deref.ensures.value at c.in_ok-loaded.ensures, (search rules)),
+)
 
 pub returns : goal.returns
-returns g c =
-    let taken = granted (λ o. texts o.items ≡ operands_in (reads_of c.args.arguments.now)) c.operands.result c.in_ok-operands.operands
-    _ _ c.in_ok-operands.ensures c.operands.ensures in
-    inl (
-      tt,
-      c.allocated.new.self,
-      taken.0,
-      inl (
-        (c.in_ok-additions.additions, c.in_ok-additions.file),
-        c.additions_of.new.self,
-        rw (c.deref.ensures.value, taken.1) at c.in_ok-additions.ensures,
-        inl (
-          c.in_ok-loaded.loaded,
-          c.load_all.new.self,
-          rw c.deref-2.ensures.value at c.in_ok-loaded.ensures,
-          inl (c.in_ok-original.original, c.find.new.self, c.in_ok-original.ensures, (refl, refl)),
-        ),
-      ),
-    )
+returns g c = inl (
+  (c.in_ok-additions.additions, c.in_ok-additions.file),
+  c.additions_of.new.self,
+  c.in_ok-additions.ensures,
+  inl (
+    c.in_ok-loaded.loaded,
+    c.load_all.new.self,
+    rw c.deref.ensures.value at c.in_ok-loaded.ensures,
+    inl (c.in_ok-original.original, c.find.new.self, c.in_ok-original.ensures, (refl, refl)),
+  ),
+)

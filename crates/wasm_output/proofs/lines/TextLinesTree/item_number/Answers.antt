@@ -2,8 +2,8 @@ use Rattle.wasm_output.proofs.Common.{refl, lines, lines_rest}
 use Rattle.wasm_output.proofs.Writing.{puts_number}
 use Rattle.wasm_output.proofs.lines.TextLinesTree.item_number.Goals as goal
 
-pub returns-clause-adds : goal.returns-clause-adds
-returns-clause-adds g c o i =
+pub returns : goal.returns
+returns g c o i =
     let mid = c.begin.new.self in
-    c.item_name.ensures.adds _ (puts_number _ o (lines mid) _ refl (record { space = c.args.space; index = c.args.index })
+    c.item_name.ensures _ (puts_number _ o (lines mid) _ refl (record { space = c.args.space; index = c.args.index })
     c.begin.ensures.begun (c.put_text.ensures (lines_rest mid)) (c.begin.ensures.adds o i))

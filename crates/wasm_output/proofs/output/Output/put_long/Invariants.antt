@@ -1,5 +1,5 @@
 use Rattle.wasm_output.proofs.Common.{length, Put}
-use Rattle.wasm_output.specs.Found.{PutsMore}
+use Rattle.wasm_output.specs.Said.{PutsMore}
 use Rattle.wasm_output.proofs.output.Output.put_long.Given as goal
 
 -- what puts the rest puts all

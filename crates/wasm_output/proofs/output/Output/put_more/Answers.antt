@@ -1,4 +1,4 @@
-use Rattle.wasm_output.proofs.Finding.{puts_more}
+use Rattle.wasm_output.proofs.Putting.{puts_more}
 use Rattle.wasm_output.proofs.output.Output.put_more.Goals as goal
 
 pub returns : goal.returns

@@ -1,5 +1,5 @@
 use Rattle.wasm_output.proofs.Common.{◌≡◌, false, List, ℕ, list_any, is_escaped, quoted_byte, subst, sym}
-use Rattle.wasm_output.proofs.Finding.{puts_maps}
+use Rattle.wasm_output.proofs.Putting.{puts_maps}
 use Rattle.wasm_output.proofs.Saying.{plain_quoted}
 use Rattle.wasm_output.proofs.output.Output.put_quoted_bytes.Goals as goal
 

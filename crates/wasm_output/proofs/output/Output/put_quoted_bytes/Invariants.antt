@@ -1,5 +1,5 @@
 use Rattle.wasm_output.proofs.Common.{length, flat_map, quoted_byte, Put}
-use Rattle.wasm_output.specs.Found.{PutsMore}
+use Rattle.wasm_output.specs.Said.{PutsMore}
 use Rattle.wasm_output.proofs.output.Output.put_quoted_bytes.Given as goal
 
 -- what puts the rest in quotes puts all

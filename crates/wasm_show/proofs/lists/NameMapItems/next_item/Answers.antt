@@ -1,5 +1,11 @@
-use Rattle.wasm_show.proofs.Faulty.{after_naming}
+use Rattle.std.proofs.Common.{ap, ◌∙◌}
+use Rattle.wasm_base.specs.Window.{place}
+use Rattle.wasm_show.specs.Lists.{with_offset}
+use Rattle.wasm_show.proofs.Listing.{after_naming}
 use Rattle.wasm_show.proofs.lists.NameMapItems.next_item.Goals as goal
 
 pub returns-clause-owed : goal.returns-clause-owed
-returns-clause-owed c = after_naming c.args.self.now c.next.new.self _ _ _ c.placed.ensures c.next.ensures.steps
+returns-clause-owed c deep level =
+    let offset = c.original_position-offset.ensures.offset ∙ ap (λ v. (place v.entries.reader).offset) c.self.view_is in
+    after_naming deep level c.args.self.now c.next.new.self _ _ (c.placed.ensures ∙ ap (λ o. with_offset o c.next.result) offset)
+    c.next.ensures.steps

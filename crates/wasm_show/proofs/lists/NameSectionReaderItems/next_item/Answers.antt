@@ -1,5 +1,11 @@
-use Rattle.wasm_show.proofs.Faulty.{after_name}
+use Rattle.std.proofs.Common.{ap, ◌∙◌}
+use Rattle.wasm_base.specs.Window.{place}
+use Rattle.wasm_show.specs.Lists.{with_offset}
+use Rattle.wasm_show.proofs.Listing.{after_name}
 use Rattle.wasm_show.proofs.lists.NameSectionReaderItems.next_item.Goals as goal
 
 pub returns-clause-owed : goal.returns-clause-owed
-returns-clause-owed c = after_name c.args.self.now c.next.new.self _ _ _ c.placed.ensures c.next.ensures.steps
+returns-clause-owed c deep level =
+    let offset = c.original_position-offset.ensures ∙ ap (λ v. (place v.entries).offset) c.self.view_is in
+    after_name deep level c.args.self.now c.next.new.self _ _ (c.placed.ensures ∙ ap (λ o. with_offset o c.next.result) offset)
+    c.next.ensures.steps

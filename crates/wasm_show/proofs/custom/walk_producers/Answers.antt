@@ -1,0 +1,12 @@
+use Rattle.std.proofs.Common.{sym, ap, ◌∙◌}
+use Rattle.wasm_base.specs.Section.{Section, all_items}
+use Rattle.wasm_custom.specs.Producers.{field_at}
+use Rattle.wasm_show.specs.Lists.{left_seen, values_seen, reading_by, unnumbered}
+use Rattle.wasm_show.proofs.custom.walk_producers.Goals as goal
+
+pub returns : goal.returns
+returns g c =
+    let deep = g.W.Walker.IS_DEEP in
+    let copy = rw c.unwrap.ensures at c.clone.ensures.cases in
+    let begins = c.into_iter_with_offsets-fields.ensures.items ∙ ap (λ (s : Section). all_items s) copy in
+    c.walk_items.ensures _ (sym (ap (left_seen (reading_by unnumbered (values_seen deep) deep c.args.level field_at) tt) begins))
