@@ -1,3 +1,4 @@
+pub mod Collecting
 pub mod Common
 pub mod DroppedParts
 pub mod DumpTurns
@@ -5,6 +6,7 @@ pub mod Dumping
 pub mod EventLines
 pub mod Numbering
 pub mod Outlines
+pub mod Requests
 pub mod ShortParts
 pub mod WalkSteps
 pub mod Walked

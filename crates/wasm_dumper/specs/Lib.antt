@@ -1,7 +1,10 @@
 pub mod Chosen
+pub mod Collecting
 pub mod Counting
 pub mod Dump
 pub mod Dumping
+pub mod Failing
 pub mod Hiding
+pub mod Requests
 pub mod Walking
 pub mod Walks

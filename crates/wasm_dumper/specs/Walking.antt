@@ -1,12 +1,10 @@
 -- How far a walk has come along a stream.
-use Rattle.std.specs.Prelude.{◌≡◌, ◌∷◌, Bool, true, false, List, [], Option, None, Ok, ℕ}
-use Rattle.std.specs.Option.{is_some}
+use Rattle.std.specs.Prelude.{◌≡◌, ◌∷◌, Bool, false, List, [], Option, ℕ}
 use Rattle.wasm_base.specs.FaultAt.{fault_at}
-use Rattle.wasm_base.specs.Hints.{is_out_of_memory}
 use Rattle.wasm_base.specs.declared.error.Error.{Error}
 use Rattle.wasm_dumper.specs.Counting.{after_all, no_counts}
 use Rattle.wasm_dumper.specs.Hiding.{ReportsOutline}
-use Rattle.wasm_dumper.specs.Walks.{SeesStream, events_seen, report_seen}
+use Rattle.wasm_dumper.specs.Walks.{SeesAll, SeesStream, events_seen, report_seen}
 use Rattle.wasm_dumper.specs.declared.counts.Counts.{Counts}
 use Rattle.wasm_dumper.specs.declared.events.Only.TheVariants.{All}
 use Rattle.wasm_dumper.specs.declared.hidden.Outline.{Outline}
@@ -28,11 +26,9 @@ module _ {W : Type 0} (saw : W → List Seen → W → Type 0) (why : W → Opti
     pub counted : c ≡ after_all no_counts events
     pub sees : Sees saw why (events_seen deep no_counts events) start now
 
-  -- The fault at which the stream ends was seen, outside of all sections; the walker stops at what is none.
-  pub record SeesLast (e : Error) (old new : W) : Type 0 where
-    pub one : is_out_of_memory (fault_at e).fault ≡ false
-        → Sees saw why (report_seen deep no_counts (stream_end (fault (fault_at e)))) old new
-    pub stops : is_out_of_memory (fault_at e).fault ≡ true → is_some (why new) ≡ true
+  -- The fault at which the stream ends was seen, outside of all sections.
+  abbrev pub SeesLast : Error → (old new : W) → Type 0
+  SeesLast e old new = Sees saw why (report_seen deep no_counts (stream_end (fault (fault_at e)))) old new
 
   -- Whatever is reported of the part, it was seen.
   abbrev pub SeesOutline : Counts → Outline → (old new : W) → Type 0
@@ -43,7 +39,6 @@ module _ {W : Type 0} (saw : W → List Seen → W → Type 0) (why : W → Opti
   abbrev pub walk_stages : {V : Type 0} → (counts : V → Counts) → Stages V W
   walk_stages counts = record {
     going = λ first start input f now out. Walking input.before input.after f (counts now) start out;
-    ending = λ first start input how now out.
-        why out ≡ None → SeesStream saw why deep (bytes_of input) (Ok how) start out;
-    done = λ first start input result out. SeesStream saw why deep (bytes_of input) result start out;
+    ending = λ first start input how now out. SeesAll saw why deep (bytes_of input) how start out;
+    done = λ first start input result out. SeesStream saw why deep input result start out;
   }

@@ -1,8 +1,9 @@
 -- What is seen of a stream, in order: of each report its section and its items.
 use Rattle.std.specs.Prelude.{◌≡◌, ℕ, zero, suc, ◌-◌, ◌<◌, ◌≤◌, ◌^◌, Bool, true, false, List, [], ◌∷◌, ◌++◌, length}
 use Rattle.std.specs.Prelude.{nat_eq}
-use Rattle.std.specs.Prelude.{Option, Some, None, Result, Ok, Err, if◌then◌else◌}
+use Rattle.std.specs.Prelude.{Option, Some, None, Result, Ok, Err, if◌then◌else◌, ◌⊎◌}
 use Rattle.std.specs.Io.KnownBytes.{Consumes}
+use Rattle.wasm_base.specs.Features.{all_features}
 use Rattle.wasm_base.specs.Item.{outcome_map}
 use Rattle.wasm_base.specs.Number.{unsigned_at}
 use Rattle.wasm_base.specs.Outcome.{Outcome}
@@ -13,11 +14,14 @@ use Rattle.wasm_base.specs.declared.fault.NumberKind.TheVariants.{VarU32}
 use Rattle.wasm_custom.specs.Custom.{Custom}
 use Rattle.wasm_dumper.specs.Counting.{Found, after, after_number, count_of, imports_in, no_counts, space_of}
 use Rattle.wasm_dumper.specs.Counting.{with_import}
+use Rattle.wasm_dumper.specs.Failing.{FailsToRead}
 use Rattle.wasm_dumper.specs.declared.counts.Counts.{Counts}
+use Rattle.wasm_frames.specs.Along.{ReadingBegins}
 use Rattle.wasm_grammar.specs.Content.{Ending, fault}
 use Rattle.wasm_grammar.specs.Ids.{type_id, import_id, function_id, table_id, memory_id, tag_id, global_id, export_id}
 use Rattle.wasm_grammar.specs.Ids.{element_id, name_of}
-use Rattle.wasm_grammar.specs.Reading.{Report, Event, counted, custom_section, last_event, stream_end, unknown_section}
+use Rattle.wasm_grammar.specs.Reading.{Report, Event, counted, custom_section, last_event, stream_end}
+use Rattle.wasm_grammar.specs.Reading.{unknown_section}
 use Rattle.wasm_items.specs.Data.{data_at}
 use Rattle.wasm_items.specs.Elements.{element_at}
 use Rattle.wasm_items.specs.Exports.{export_at}
@@ -27,7 +31,7 @@ use Rattle.wasm_items.specs.RecGroups.{RecGroupParts, rec_group_at, rec_group_pa
 use Rattle.wasm_items.specs.Tables.{table_at}
 use Rattle.wasm_items.specs.Tags.{tag_type_at}
 use Rattle.wasm_items.specs.declared.types.RecGroup.{RecGroup}
-use Rattle.wasm_io.specs.Calls.{Change}
+use Rattle.wasm_io.specs.Calls.{Change, Device, bytes_of}
 use Rattle.wasm_io.specs.declared.devices.ListError.{ListError}
 use Rattle.wasm_output.specs.Numbers.{more}
 use Rattle.wasm_output.specs.declared.numbers.Space.{Space}
@@ -197,16 +201,32 @@ pub record SeenOf (deep : Bool) (input : Change) (how : Ended) (seen : List Seen
   pub past_the_top : 2 ^ 64 ≤ length given → PassesTop given first end
   pub is : seen ≡ events_seen deep no_counts (first ++ last_event end ∷ [])
 
--- The walker has not stopped, and has seen what the stream has.
-pub record SeesWhole {W : Type 0} (saw : W → List Seen → W → Type 0) (why : W → Option ListError) (deep : Bool)
-    (input : Change) (how : Ended) (old new : W) : Type 0 where
-  pub going : why new ≡ None
-  pub seen : List Seen
-  pub of_stream : SeenOf deep input how seen
-  pub sees : Sees saw why seen old new
+module _ {W : Type 0} (saw : W → List Seen → W → Type 0) (why : W → Option ListError) (deep : Bool) where
+  -- The walker has seen what the stream has, or a beginning of it if it has stopped.
+  pub record SeesAll (input : Change) (how : Ended) (old new : W) : Type 0 where
+    pub seen : List Seen
+    pub of_stream : SeenOf deep input how seen
+    pub sees : Sees saw why seen old new
 
--- How a walk ended: if at the stream's end or fault, this is what the walker has seen.
-abbrev pub SeesStream : {W : Type 0} → (saw : W → List Seen → W → Type 0) (why : W → Option ListError) → (deep : Bool)
-    → (input : Change) → Result Ended ListError → (old new : W) → Type 0
-SeesStream saw why deep input (Ok how) old new = SeesWhole saw why deep input how old new
-SeesStream saw why deep input (Err stop) old new = Unit {0}
+  -- The same, and neither the walker has stopped nor the source failed.
+  pub record SeesWhole (input : Device) (how : Ended) (old new : W) : Type 0 where
+    pub all : SeesAll (bytes_of input) how old new
+    pub going : why new ≡ None
+    pub unfailed : input.has_failed ≡ input.had_failed
+
+  -- The walker has seen what these first events of the stream have, or a beginning of it if it has stopped. The walk
+  -- ended because it has, or because a read failed.
+  pub record SeesFirst (input : Device) (stop : ListError) (old new : W) : Type 0 where
+    pub given : List ℕ
+    pub first : List Event
+    pub gave : Consumes input.before input.after given
+    pub begins : length given < 2 ^ 64 → ReadingBegins 0 all_features given first
+    pub sees : Sees saw why (events_seen deep no_counts first) old new
+    pub because : ((why new ≡ Some stop) × (input.has_failed ≡ input.had_failed))
+        ⊎ FailsToRead input given first stop
+
+  -- | what a walker has seen where a walk ends: all that the stream has; or, if the source, the walker or an allocation
+  --   failed, what its first events have [`SeesWhole`, `SeesFirst`]
+  abbrev pub SeesStream : (input : Device) → Result Ended ListError → (old new : W) → Type 0
+  SeesStream input (Ok how) old new = SeesWhole input how old new
+  SeesStream input (Err stop) old new = SeesFirst input stop old new

@@ -1,38 +1,23 @@
 // Collects the names of items from the custom sections of a stream: `name`, or else `linking`.
-ghost use Rattle.std.specs.Prelude.{◌≡◌, ◌<◌, ◌≤◌, ◌+◌, length, vec_capacity, vec_len, IfErr, if◌then◌else◌};
+ghost use Rattle.std.specs.Prelude.{◌≡◌, ◌<◌, vec_len, IfErr, if◌then◌else◌};
+ghost use Rattle.wasm_dumper.specs.Collecting.{collect_stages};
 ghost use Rattle.wasm_io.specs.declared.devices.ListError.TheVariants.{Memory};
 ghost use Rattle.wasm_output.specs.ItemNames.{KeepsNames};
 
 use crate::events::{Only, Shown};
-use crate::hidden::{Outline, Skipped, drop_part, skip_unread};
+use crate::hidden::{Outline, Supplied, supply};
 use crate::linked::Linked;
 use std::alloc::Global;
 use wasm_custom::{Name, NameMap, NameSectionReader};
-use wasm_frames::StoredParser;
+use wasm_frames::Frame;
 use wasm_grammar::CUSTOM_SECTION;
 use wasm_io::{ListError, Source};
 use wasm_output::{ItemNames, Space};
-use wasm_parser::Payload;
-use wasm_streams::{Ahead, Cursor, FrameStep, next_frame, seen};
+use wasm_parser::{Error, Payload};
+use wasm_streams::{Ahead, Cursor, Visitor, visit};
 
 /// The number of bytes that are read at once, at most.
 const PIECE: usize = 65_536;
-
-/// What the loop does next.
-#[derive(Clone, Copy)]
-enum Next {
-    /// It performs another step.
-    Step,
-    /// It reads the source.
-    Read,
-    /// It ends.
-    End,
-}
-
-// Names end at their first fault.
-fn after_names(is_whole: bool) -> Next {
-    if is_whole { Next::Step } else { Next::End }
-}
 
 // Adds the names of a map, up to its first fault. Returns false if it has one.
 fn add_map(
@@ -112,30 +97,28 @@ struct Collected {
 }
 
 impl Collected {
-    // Adds the names of a section `name`. Returns what to do next.
-    fn add_names(
-        &mut self,
-        alloc: Global,
-        section: NameSectionReader<'_>,
-    ) -> Result<Next, ListError>
+    // Adds the names of a section `name`. At a fault all names end: it then returns `Output`.
+    fn add_names(&mut self, alloc: Global, section: NameSectionReader<'_>) -> Result<(), ListError>
         ensures keeps { KeepsNames self.old.named self.new.named }
         ensures linked { self.new.linked ≡ self.old.linked }
-        ensures memory { IfErr result (λ why. why ≡ Memory) }
     {
         self.has_section = true;
-        Ok(after_names(add_subsections(alloc, &mut self.named, section)?))
+        if add_subsections(alloc, &mut self.named, section)? {
+            Ok(())
+        } else {
+            Err(ListError::Output)
+        }
     }
 
-    // Adds the names of a payload that is read of these bytes. Returns what to do next.
+    // Adds the names of a payload that is read of these bytes. If all names end with it, it returns `Output`.
     fn add_payload(
         &mut self,
         alloc: Global,
         bytes: &[u8],
         payload: &Payload<'_>,
-    ) -> Result<Next, ListError>
+    ) -> Result<(), ListError>
         ensures keeps { KeepsNames self.old.named self.new.named }
         ensures linked { KeepsNames self.old.linked.names self.new.linked.names }
-        ensures memory { IfErr result (λ why. why ≡ Memory) }
     {
         self.linked
             .pass(alloc, &mut self.named, bytes, payload, true)?;
@@ -143,23 +126,7 @@ impl Collected {
             Payload::CustomSection(section) if section.name() == "name" => {
                 self.add_names(alloc, NameSectionReader::new(alloc, section.data_reader()))
             }
-            Payload::End(_) => Ok(Next::End),
-            _ => Ok(Next::Step),
-        }
-    }
-
-    // Adds the names of the payload that a step returned. Returns what to do next.
-    fn add_answer(&mut self, alloc: Global, answer: FrameStep<'_>) -> Result<Next, ListError>
-        ensures keeps { KeepsNames self.old.named self.new.named }
-        ensures linked { KeepsNames self.old.linked.names self.new.linked.names }
-        ensures memory { IfErr result (λ why. why ≡ Memory) }
-    {
-        match answer {
-            FrameStep::NeedMoreData(_) => Ok(Next::Read),
-            FrameStep::Parsed { frame, bytes } => {
-                self.add_payload(alloc, bytes, &Payload::from(frame))
-            }
-            FrameStep::Fault(_) => Ok(Next::End),
+            _ => Ok(()),
         }
     }
 
@@ -208,59 +175,54 @@ fn named_parts() -> Shown<'static> {
     }
 }
 
-// Reads the source once, or skips the part at the cursor. Returns false if the source failed or ended within that part.
-fn read_more<R: Source>(
+// What collects the names of each part.
+#[derive(Drop)]
+struct Collector {
     alloc: Global,
-    names: &mut Collected,
-    cursor: &mut Cursor,
-    stored: &mut Vec<u8>,
-    ahead: &mut Ahead<Global>,
-    input: &mut R,
-) -> Result<bool, ListError>
-    requires { vec_len stored.old + length ahead.old ≤ vec_capacity stored.old }
-    ensures keeps { KeepsNames names.old.named names.new.named }
-    ensures linked { KeepsNames names.old.linked.names names.new.linked.names }
-    ensures memory { IfErr result (λ why. why ≡ Memory) }
-{
-    let part = skip_unread(alloc, named_parts(), cursor, seen(stored, ahead.bytes()))?;
-    let Some(Skipped { passing, outline }) = part else {
-        return match ahead.refill(cursor, stored, input) {
-            Ok(()) => Ok(true),
-            Err(ListError::Memory) => Err(ListError::Memory),
-            Err(_) => Ok(false),
-        };
-    };
-    match drop_part(alloc, passing, cursor, stored, ahead, input) {
-        Ok(None) => {
-            names.add_skipped(alloc, outline)?;
-            Ok(true)
-        }
-        _ => Ok(false),
-    }
 }
 
-// Performs one step and adds the names of its payload, or reads on. Returns false at the end.
-fn add_next<R: Source>(
-    alloc: Global,
-    names: &mut Collected,
-    cursor: &mut Cursor,
-    stored: &mut Vec<u8>,
-    ahead: &mut Ahead<Global>,
-    input: &mut R,
-) -> Result<bool, ListError>
-    ensures keeps { KeepsNames names.old.named names.new.named }
-    ensures linked { KeepsNames names.old.linked.names names.new.linked.names }
-    ensures memory { IfErr result (λ why. why ≡ Memory) }
-{
-    ahead.make_ready(cursor, stored)?;
-    let answer = next_frame(cursor, seen(stored, ahead.bytes()));
-    match names.add_answer(alloc, answer)? {
-        Next::Step => {
-            ahead.pass_borrowed(cursor, stored);
-            Ok(true)
+impl Visitor<Global, Collected> for Collector {
+    ghost stages = { collect_stages };
+
+    ghost sound = { λ v. Unit {0} };
+
+    fn take_part(
+        &mut self,
+        frame: Frame<'_>,
+        bytes: &[u8],
+        names: &mut Collected,
+    ) -> Result<(), ListError> {
+        names.add_payload(self.alloc, bytes, &Payload::from(frame))
+    }
+
+    fn take_fault(&mut self, _error: Error, _names: &mut Collected) -> Result<(), ListError> {
+        Ok(())
+    }
+
+    fn read_on<R: Source>(
+        &mut self,
+        cursor: &mut Cursor,
+        stored: &mut Vec<u8>,
+        ahead: &mut Ahead<Global>,
+        input: &mut R,
+        names: &mut Collected,
+    ) -> Result<Option<Error>, ListError> {
+        match supply(self.alloc, named_parts(), cursor, stored, ahead, input)? {
+            Supplied::Read => Ok(None),
+            Supplied::Passed(outline) => {
+                names.add_skipped(self.alloc, outline)?;
+                Ok(None)
+            }
+            Supplied::Cut(error) => Ok(Some(error)),
         }
-        Next::Read => read_more(alloc, names, cursor, stored, ahead, input),
-        Next::End => Ok(false),
+    }
+
+    fn finish(&mut self, _names: &mut Collected) -> Result<(), ListError> {
+        Ok(())
+    }
+
+    fn out_of_memory(&mut self, _names: &mut Collected) -> ListError {
+        ListError::Memory
     }
 }
 
@@ -279,15 +241,10 @@ fn collect_into<R: Source>(
     ensures linked { KeepsNames names.old.linked.names names.new.linked.names }
     ensures memory { IfErr result (λ why. why ≡ Memory) }
 {
-    let mut ahead = Ahead::new(buffer);
-    let mut stored = Vec::new(alloc);
-    let mut cursor = Cursor::new(StoredParser::new(0));
-    'steps: for _ in 0..u64::MAX {
-        if !add_next(alloc, names, &mut cursor, &mut stored, &mut ahead, input)? {
-            break;
-        }
+    match visit(alloc, &mut Collector { alloc }, input, names, buffer) {
+        Err(ListError::Memory) => Err(ListError::Memory),
+        _ => Ok(()),
     }
-    Ok(())
 }
 
 /// Reads a whole stream, and returns the names of its items and symbols.

@@ -1,18 +1,20 @@
 // Skips the parts of a stream of which a dump shows nothing, or only their first fields.
 ghost use Rattle.std.specs.List.{starts_with};
-ghost use Rattle.std.specs.Prelude.{◌≡◌, ◌<◌, [], codes, false, drop, length, nat_eq, option_map, Some, IfErr, IfOk};
+ghost use Rattle.std.specs.Prelude.{◌≡◌, ◌<◌, ◌≤◌, ◌+◌, [], codes, false, drop, length, nat_eq, option_map, vec_capacity, vec_len, Some, IfErr, IfOk, OnOk};
 ghost use Rattle.std.specs.String.{string_bytes};
 ghost use Rattle.wasm_base.specs.Features.{all_features};
 ghost use Rattle.wasm_base.specs.Window.{window_over};
 ghost use Rattle.wasm_dumper.specs.Chosen.{fields_part, id_of as id_reported, name_of as name_reported};
 ghost use Rattle.wasm_dumper.specs.Hiding.{DropsPart, FailsWithin, IsOutlineIfAny, SkipsIfAny, has_imports as imports_are_in, has_symbols as symbols_are_in};
 ghost use Rattle.wasm_dumper.specs.Hiding.{is_body_head, is_hidden as hides, is_known as name_is_known, is_outlined as outlines, outlined_part};
-ghost use Rattle.wasm_streams.specs.Beside.{seen};
+ghost use Rattle.wasm_dumper.specs.Requests.{Meets};
+ghost use Rattle.wasm_streams.specs.Beside.{beside, lending, seen};
+ghost use Rattle.wasm_streams.specs.Cursors.{feed_of};
 ghost use Rattle.wasm_streams.specs.Passing.{held_by};
 ghost use Rattle.wasm_frames.specs.SkipNext.{head_is, report_with, skip_is};
 ghost use Rattle.wasm_grammar.specs.Reading.{custom_section};
 ghost use Rattle.wasm_parser.specs.ParseAnswer.{ItemsBegin, report_of};
-ghost use Rattle.wasm_io.specs.Calls.{input_failed};
+ghost use Rattle.wasm_io.specs.Calls.{device_of, input_failed};
 ghost use Rattle.wasm_io.specs.declared.devices.ListError.TheVariants.{Memory};
 
 use crate::events::{CustomFields, Only, Shown, is_chosen_by_any, shows_items};
@@ -24,7 +26,7 @@ use wasm_custom::CustomSectionReader;
 use wasm_grammar::{CODE_SECTION, CUSTOM_SECTION, IMPORT_SECTION};
 use wasm_io::{ListError, Page, Source};
 use wasm_parser::{Error, PartHead, Payload, SkippedPart};
-use wasm_streams::{Ahead, Cursor, Passing, pass_part};
+use wasm_streams::{Ahead, Cursor, Passing, pass_part, seen};
 
 /// A part that was skipped by its first fields.
 #[derive(Drop)]
@@ -281,4 +283,45 @@ pub(crate) fn drop_part<R: Source>(
         input,
         &mut io::sink(),
     )
+}
+
+/// What a request for more input came to.
+#[derive(Drop)]
+pub(crate) enum Supplied {
+    /// The source was read.
+    Read,
+    /// A part was skipped by its first fields, of which this is shown.
+    Passed(Outline),
+    /// The stream ends within such a part, which is this fault.
+    Cut(Error),
+}
+
+/// Meets a request for more input: skips the part at the cursor if its first fields are all that is needed of it, or
+/// else reads the source once.
+pub(crate) fn supply<R: Source>(
+    alloc: Global,
+    shown: Shown<'_>,
+    cursor: &mut Cursor,
+    stored: &mut Vec<u8>,
+    ahead: &mut Ahead<Global>,
+    input: &mut R,
+) -> Result<Supplied, ListError>
+    requires { vec_len stored.old + length ahead.old ≤ vec_capacity stored.old }
+    // Proved: a request for more input is met by the next event, which is skipped, or by bytes of the source; or a read
+    //   failed, and the next event was not decided [`hidden::supply` (`Meets`)]
+    ensures meets { Meets shown.entry.only.now shown.entry.has_bytes
+        (device_of R.remaining R.has_failed input.old input.new)
+        (lending stored.old.items ahead.old cursor.old)
+        (beside (feed_of stored.new.items cursor.new) ahead.new) result }
+    ensures source { OnOk result (R.has_failed input.new ≡ R.has_failed input.old) }
+{
+    let bytes = seen(stored, ahead.bytes());
+    let Some(Skipped { passing, outline }) = skip_unread(alloc, shown, cursor, bytes)? else {
+        ahead.refill(cursor, stored, input)?;
+        return Ok(Supplied::Read);
+    };
+    match drop_part(alloc, passing, cursor, stored, ahead, input)? {
+        None => Ok(Supplied::Passed(outline)),
+        Some(error) => Ok(Supplied::Cut(error)),
+    }
 }

@@ -4,20 +4,20 @@ ghost use Rattle.wasm_dumper.specs.Hiding.{CountsOutline};
 ghost use Rattle.wasm_dumper.specs.Walking.{SeesLast, SeesOutline, walk_stages};
 ghost use Rattle.wasm_dumper.specs.Walks.{SeesStream};
 ghost use Rattle.wasm_dumper.specs.declared.events.Only.TheVariants.{All};
-ghost use Rattle.wasm_io.specs.Calls.{device_of, from_to};
+ghost use Rattle.wasm_io.specs.Calls.{device_of};
 ghost use Rattle.wasm_streams.specs.Beside.{ReadsEnough, beside, lending};
 ghost use Rattle.wasm_streams.specs.Cursors.{feed_of};
 
 use crate::counts::Counts;
 use crate::events::{Only, Shown};
-use crate::hidden::{Outline, Skipped, drop_part, skip_unread};
+use crate::hidden::{Outline, Supplied, supply};
 use crate::stream::walk_payload;
 use std::alloc::Global;
 use wasm_frames::Frame;
 use wasm_io::{ListError, Source};
 use wasm_parser::{Error, Payload};
 use wasm_show::{Walker, Within};
-use wasm_streams::{Ahead, Cursor, Ended, Visitor, seen, visit};
+use wasm_streams::{Ahead, Cursor, Ended, Visitor, visit};
 
 // Returns an error if the walker has stopped.
 fn keep_on<W: Walker>(walker: &W) -> Result<(), ListError>
@@ -104,20 +104,19 @@ impl<W: Walker> Visitor<Global, W> for Steps {
         input: &mut R,
         walker: &mut W,
     ) -> Result<Option<Error>, ListError> {
-        let bytes = seen(stored, ahead.bytes());
-        let part = skip_unread(self.alloc, all_parts(), cursor, bytes)?;
-        let Some(Skipped { passing, outline }) = part else {
-            ahead.refill(cursor, stored, input)?;
-            return Ok(None);
-        };
-        if let Some(error) = drop_part(self.alloc, passing, cursor, stored, ahead, input)? {
-            walk_last_fault(&error, walker);
-            keep_on(walker)?;
-            return Ok(Some(error));
+        match supply(self.alloc, all_parts(), cursor, stored, ahead, input)? {
+            Supplied::Read => Ok(None),
+            Supplied::Passed(outline) => {
+                self.pass_skipped(&outline, walker);
+                keep_on(walker)?;
+                Ok(None)
+            }
+            Supplied::Cut(error) => {
+                walk_last_fault(&error, walker);
+                keep_on(walker)?;
+                Ok(Some(error))
+            }
         }
-        self.pass_skipped(&outline, walker);
-        keep_on(walker)?;
-        Ok(None)
     }
 
     fn finish(&mut self, walker: &mut W) -> Result<(), ListError> {
@@ -160,9 +159,12 @@ pub fn walk<R: Source, W: Walker>(
     requires { 1 ≤ piece }
     // Proved: what a walker sees of a whole stream: of each event its section, and each item of that with its level, its
     //   offset and its number, in order, and each fault in the place of an item; so also where the stream is cut
-    //   [`walk` (`SeesStream`, `events_seen`)]
+    //   [`walk` (`SeesWhole`, `events_seen`)]
+    // Proved: if `walk` fails, the walker has stopped, the source has failed, or an allocation; and the walker has seen
+    //   what the first events of the stream have, of which a source that fails leaves out only the one that it cuts
+    //   [the same (`SeesFirst`, `FailsToRead`)]
     ensures { SeesStream W.saw W.why W.IS_DEEP
-        (from_to (R.remaining input.old) (R.remaining input.new)) result walker.old walker.new }
+        (device_of R.remaining R.has_failed input.old input.new) result walker.old walker.new }
 {
     let buffer = vec![in alloc; 0u8; piece]?;
     let mut steps = Steps {
