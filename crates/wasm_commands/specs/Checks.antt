@@ -1,17 +1,23 @@
 -- What a check of an input finds.
-use Rattle.std.specs.Prelude.{◌≡◌, ℕ, Bool, true, false, List, [], ◌++◌, codes, None, Result, Ok, Err}
+use Rattle.std.specs.Prelude.{◌≡◌, ◌<◌, ◌^◌, ℕ, Bool, true, false, List, [], ◌++◌, codes, length, None, Result, Ok, Err}
 use Rattle.std.specs.Prelude.{if◌then◌else◌, IfOk}
-use Rattle.std.specs.Io.KnownBytes.{Appends}
+use Rattle.std.specs.Io.KnownBytes.{Appends, Consumes}
+use Rattle.wasm_base.specs.Features.{all_features}
 use Rattle.wasm_commands.specs.Messages.{name_shown}
 use Rattle.wasm_commands.specs.Rewrites.{OnlyWrites, Opens, input_device}
 use Rattle.wasm_commands.specs.Runs.{Allots, Fails, Run, Then, output_of}
 use Rattle.wasm_commands.specs.declared.system.System.{Ghosts as SystemOf}
-use Rattle.wasm_dumper.specs.Walks.{SeenOf}
+use Rattle.wasm_dumper.specs.Counting.{no_counts}
+use Rattle.wasm_dumper.specs.Walks.{SeenOf, events_seen}
+use Rattle.wasm_frames.specs.Along.{ReadingBegins}
+use Rattle.wasm_grammar.specs.Reading.{Event}
 use Rattle.wasm_streams.specs.declared.turns.Ended.{Ended}
 use Rattle.wasm_io.specs.Calls.{Change, bytes_of}
+use Rattle.wasm_io.specs.Page.{WritesHead}
 use Rattle.wasm_io.specs.declared.devices.ListError.{ListError}
 use Rattle.wasm_io.specs.declared.devices.source.Source.{Ghosts as SourceOf}
-use Rattle.wasm_show.specs.Noted.{HasNoted, Noted}
+use Rattle.wasm_output.specs.Said.{HasPut}
+use Rattle.wasm_show.specs.Noted.{HasNoted, Noted, lines_since}
 use Rattle.wasm_show.specs.Seen.{Seen, any_fault, lines_of, outside}
 
 -- what comes before each fault of a file
@@ -28,9 +34,26 @@ pub record ReadsOn (input : Change) (old new : Noted) (found : Bool) : Type 0 wh
   pub out : new.output.waiting ≡ []
   pub is : found ≡ new.has_found
 
+-- What the source gave begins with these events.
+pub record GaveFirst (input : Change) (first : List Event) : Type 0 where
+  pub given : List ℕ
+  pub gave : Consumes input.before input.after given
+  pub begins : length given < 2 ^ 64 → ReadingBegins 0 all_features given first
+
+-- A walk or its output failed. Of what the first events have a beginning was seen, and the lines of that were put, as
+-- far as the output could.
+pub record ReadsFirst (input : Change) (old new : Noted) : Type 0 where
+  pub first : List Event
+  pub gave : GaveFirst input first
+  pub seen : List Seen
+  pub left : List Seen
+  pub is : seen ++ left ≡ events_seen true no_counts first
+  pub puts : HasPut old.output (lines_since old seen) new.output
+  pub out : new.output.why ≡ None → new.output.waiting ≡ []
+
 abbrev pub ReadsInput : (input : Change) (old new : Noted) → Result Bool ListError → Type 0
 ReadsInput input old new (Ok found) = ReadsOn input old new found
-ReadsInput input old new (Err why) = Unit {0}
+ReadsInput input old new (Err why) = ReadsFirst input old new
 
 -- All of what the source gave was seen. The lines of its faults were written, each after this prefix, unless the check
 -- is quiet, and the result is whether a fault is among what was seen.
@@ -41,11 +64,18 @@ pub record ChecksWhole (prefix : List ℕ) (is_quiet : Bool) (input output : Cha
   pub lines : Appends output.before output.after (if is_quiet then [] else lines_of prefix outside seen)
   pub is : found ≡ any_fault seen
 
+-- The check failed. Of the lines of what the first events have a beginning was written.
+pub record ChecksFirst (prefix : List ℕ) (is_quiet : Bool) (input output : Change) : Type 0 where
+  pub first : List Event
+  pub gave : GaveFirst input first
+  pub lines : WritesHead output.before output.after
+      (if is_quiet then [] else lines_of prefix outside (events_seen true no_counts first))
+
 -- | whether an input has a fault, in the stream or in an item of it, and the lines that say so
--- Whether what the source gave has a fault, and the lines of all; nothing is said where the check failed.
+-- Whether what the source gave has a fault, and the lines of all; or those of a beginning, where the check failed.
 abbrev pub ChecksInput : (prefix : List ℕ) (is_quiet : Bool) (input output : Change) → Result Bool ListError → Type 0
 ChecksInput prefix is_quiet input output (Ok found) = ChecksWhole prefix is_quiet input output found
-ChecksInput prefix is_quiet input output (Err why) = Unit {0}
+ChecksInput prefix is_quiet input output (Err why) = ChecksFirst prefix is_quiet input output
 
 -- The status is 1 if there is a fault. Why a check failed is said.
 abbrev pub EndsCheck : {S : Type 0} → (name : List ℕ) → Result Bool ListError → Result (Unit {0}) ℕ → (old new : Run S)

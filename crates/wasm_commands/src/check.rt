@@ -55,8 +55,10 @@ fn find_faults<R: Source, W: Sink>(
     ensures { ReadsInput (from_to (R.remaining input.old) (R.remaining input.new))
         (found_by faults.old) (found_by faults.new) result }
 {
-    walk(alloc, input, faults, PIECE)?;
+    let walked = walk(alloc, input, faults, PIECE);
+    // What was found before a source failed is written too.
     faults.write_out();
+    walked?;
     match faults.why_stopped() {
         None => Ok(faults.has_faults()),
         Some(why) => Err(why),
@@ -95,6 +97,8 @@ pub fn check_as<R: Source, W: Write>(
     //   order: of the first malformed item of each list, each refused subsection and name that is out of order, and the
     //   fault of the stream, each with its offset, message, number and section; and a warning of each section with an
     //   unknown id. A quiet check writes none [the same (`ChecksWhole`: `lines_of`, `events_seen`)]
+    // Proved: if the input, the output or an allocation fails, it has written a beginning of the lines of what the first
+    //   events of the stream have [the same (`ChecksFirst`)]
     ensures checks { ChecksInput (string_bytes prefix) is_quiet
         (from_to (R.remaining input.old) (R.remaining input.new))
         (from_to (W.contents output.writer) (W.contents result.1.writer)) result.0 }

@@ -161,9 +161,18 @@ fn stops_where_the_sink_is_full(rt: HostRuntime) -> Result<(), Fail> {
 
 /// A source that returns these bytes, and then fails.
 #[derive(Drop)]
-struct Cut<'a> {
+pub(super) struct Cut<'a> {
     bytes: SliceSource<'a>,
     failed: bool,
+}
+
+impl<'a> Cut<'a> {
+    pub(super) fn new(bytes: &'a [u8]) -> Cut<'a> {
+        Cut {
+            bytes: SliceSource::new(bytes),
+            failed: false,
+        }
+    }
 }
 
 impl Source for Cut<'_> {
@@ -189,10 +198,7 @@ fn shows_what_came_before_the_source_failed(rt: HostRuntime) -> Result<(), Fail>
     // The last two read all bytes at once: only a request for more may cause the read that fails.
     for piece in [1, 4, 30, 65_536] {
         let sink = BoundedSink::new(rt.alloc(), 2_000)?;
-        let mut input = Cut {
-            bytes: SliceSource::new(&MODULE[..30]),
-            failed: false,
-        };
+        let mut input = Cut::new(&MODULE[..30]);
         let (ended, output) = dumped(rt.alloc(), &[Only::All], &mut input, sink, piece);
         assert!(rt; ended == Err(ListError::Input), "{piece}");
         assert!(rt; input.failed());
@@ -271,10 +277,7 @@ fn a_part_that_is_not_shown_is_cut(rt: HostRuntime) -> Result<(), Fail> {
 fn the_source_fails_in_a_part_that_is_not_shown(rt: HostRuntime) -> Result<(), Fail> {
     for piece in [1, 4, 30, 65_536] {
         let sink = BoundedSink::new(rt.alloc(), 2_000)?;
-        let mut input = Cut {
-            bytes: SliceSource::new(&HIDING[..30]),
-            failed: false,
-        };
+        let mut input = Cut::new(&HIDING[..30]);
         let (ended, output) = dumped(rt.alloc(), &[Only::Id(2)], &mut input, sink, piece);
         assert!(rt; ended == Err(ListError::Input), "{piece}");
         let text =

@@ -1,9 +1,11 @@
 // Walks over streams that keep faults alone.
+use super::dumps::Cut;
 use std::alloc::Global;
 use std::process::Abort;
 use std::test::Fail;
+use wasm_commands::check_as;
 use wasm_dumper::{Counts, walk, walk_payload};
-use wasm_io::{BoundedSink, ListError, SliceSource};
+use wasm_io::{BoundedSink, ListError, SliceSource, WriteSink};
 use wasm_parser::{Error, Fault, Parser, Payload};
 use wasm_show::{Faults, Walker, Within};
 use wasm_streams::Ended;
@@ -344,5 +346,22 @@ fn writes_long_lines(rt: HostRuntime) -> Result<(), Fail> {
     let output = out.into_output();
     assert!(rt; found);
     assert!(rt; output.written() == wanted.as_bytes());
+    Ok(())
+}
+
+// What was found before the source failed is written, and so is a warning.
+#[test]
+fn writes_what_it_found_before_the_source_failed(rt: HostRuntime) -> Result<(), Fail> {
+    let alloc = rt.alloc();
+    // A name that is not UTF-8, a section with an unknown id, and the beginning of another section.
+    let stream = b"\0asm\x01\0\0\0\x07\x05\x01\x01\x80\0\0\x0e\x01\0\x0a\x7f";
+    let mut text = Vec::new(alloc);
+    let prefix = String::from_str(alloc, "a: ")?;
+    let output = WriteSink::new(&mut text);
+    let (found, _output) = check_as(alloc, prefix, false, &mut Cut::new(stream), output);
+    assert!(rt; found == Err(ListError::Input));
+    let wanted =
+        b"a: 0xc: malformed UTF-8 encoding, in section export\na: 0x11: warning: unknown section id: 14\n";
+    assert_eq!(rt; text.as_slice(), wanted.as_slice());
     Ok(())
 }
