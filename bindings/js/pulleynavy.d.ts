@@ -602,7 +602,7 @@ export type Edit =
     | { readonly replace: string; readonly data: Bytes }
     /** Removes each custom section with this name. */
     | { readonly remove: string }
-    /** Removes the custom sections with other names. */
+    /** Removes the custom sections with other names. If the name ends with `*`, those stay whose names begin with what is before the `*`. */
     | { readonly keep: string };
 
 /** The result of `strip` and `edit`: the new stream, or the fault of a malformed one. */

@@ -148,6 +148,7 @@ CHOICES = [
     (["--keep", "name", "--keep", "a"], lambda name: name in (b"name", b"a")),
     (["--only", "name"], lambda name: name != b"name"),
     (["--only", "name", "--only", "a", "--keep-names"], lambda name: name != b"a"),
+    (["--only", "n*", "--keep", "a*"], lambda name: name.startswith(b"a") or not name.startswith(b"n")),
 ]
 
 

@@ -374,12 +374,17 @@ def custom(name, data):
     return b"\0" + shortest(len(content)) + content
 
 
+def matches(pattern, name):
+    """Whether a name matches a pattern: one that ends with a star matches what begins with the bytes before it."""
+    return name.startswith(pattern[:-1]) if pattern.endswith(b"*") else name == pattern
+
+
 # What an edit of each kind makes of a part, by its bytes, its name, the name of the edit and the new section.
 EDITS = {
     "append": lambda part, name, other, new: part,
     "replace": lambda part, name, other, new: new if name == other else part,
     "remove": lambda part, name, other, new: b"" if name == other else part,
-    "keep": lambda part, name, other, new: part if name in (None, other) else b"",
+    "keep": lambda part, name, other, new: part if name is None or matches(other, name) else b"",
 }
 
 

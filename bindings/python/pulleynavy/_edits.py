@@ -38,7 +38,7 @@ class Remove:
 
 @dataclasses.dataclass(frozen=True)
 class Keep:
-    """Removes the custom sections with other names."""
+    """Removes the custom sections with other names. If the name ends with `*`, those stay whose names begin with what is before the `*`."""
 
     name: str
 

@@ -23,7 +23,7 @@ pub enum Edit<'a> {
     Replace(NewSection<'a>),
     /// Removes each custom section with this name.
     Remove(&'a str),
-    /// Removes the custom sections with other names.
+    /// Removes the custom sections with other names. If the name ends with `*`, the sections stay whose names begin with the bytes before the `*`.
     Keep(&'a str),
 }
 

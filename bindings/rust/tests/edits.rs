@@ -16,7 +16,7 @@ fn edited(stream: &[u8], edit: Edit<'_>) -> Result<Vec<u8>> {
 }
 
 /// A stream, an edit, and the edited stream or the fault.
-const ROWS: [(&str, Edit<'_>, std::result::Result<&str, &str>); 13] = [
+const ROWS: [(&str, Edit<'_>, std::result::Result<&str, &str>); 14] = [
     ("M 00 02 01 61 01 01 00", Edit::Append(section("b", b"zz")), Ok("M 00 02 01 61 01 01 00 00 04 01 62 7a 7a")),
     ("M", Edit::Append(section("", b"")), Ok("M 00 01 00")),
     ("00 61 73 6d 0d 00 01 00", Edit::Append(section("α", b"")), Ok("00 61 73 6d 0d 00 01 00 00 03 02 ce b1")),
@@ -27,6 +27,7 @@ const ROWS: [(&str, Edit<'_>, std::result::Result<&str, &str>); 13] = [
     ("M 00 82 80 00 01 61", Edit::Remove("b"), Ok("M 00 82 80 00 01 61")),
     ("M 00 02 01 61 01 01 00 00 02 01 62", Edit::Keep("b"), Ok("M 01 01 00 00 02 01 62")),
     ("M 00 02 01 61", Edit::Keep(""), Ok("M")),
+    ("M 00 02 01 61 00 03 02 62 63", Edit::Keep("b*"), Ok("M 00 03 02 62 63")),
     ("M 03 02 01 00", Edit::Keep("a"), Err("function section has non-zero count but code section is absent (at offset 0xc)")),
     ("", Edit::Append(section("a", b"")), Err("unexpected end-of-file (at offset 0x0)")),
     ("M 00 02 01", Edit::Remove("a"), Err("unexpected end-of-file (at offset 0xa)")),

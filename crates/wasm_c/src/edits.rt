@@ -38,7 +38,8 @@ pub extern "C" fn pulleynavy_encode_custom(name: &[u8], data: &[u8], out: &mut [
 /// * `PULLEYNAVY_EDIT_APPEND` appends a custom section with this name and this data.
 /// * `PULLEYNAVY_EDIT_REPLACE` replaces each custom section with this name, in its place.
 /// * `PULLEYNAVY_EDIT_REMOVE` removes each custom section with this name. The data is ignored.
-/// * `PULLEYNAVY_EDIT_KEEP` removes the custom sections with other names. The data is ignored.
+/// * `PULLEYNAVY_EDIT_KEEP` removes the custom sections with other names. If the name ends with `*`, the sections stay
+///   whose names begin with the bytes before the `*`. The data is ignored.
 ///
 /// The other sections keep their bytes and their order. The stream begins at offset 0. For several edits, call once for
 /// each, and pass the bytes that the last call wrote. If `out` is shorter than the edited stream, nothing is written, and

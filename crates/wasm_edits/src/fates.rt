@@ -1,16 +1,21 @@
 // Which custom sections of a stream stay.
 ghost use Rattle.std.specs.Prelude.{◌≡◌};
-ghost use Rattle.wasm_edits.specs.Fates.{custom_stays, is_among as is_one_of, others_stay, stays_by};
+ghost use Rattle.wasm_edits.specs.Fates.{custom_stays, is_among as is_one_of, matches, others_stay, stays_by};
 
 /// The choice of custom sections that stay in a stripped stream.
 ///
-/// A custom section stays if its name is in `kept`; or if `removed` has names, and its name is not among them; or if it
-/// is `name` and `names` is true. The other custom sections are removed.
+/// A custom section stays if its name matches a pattern of `kept`; or if `removed` has patterns, and the name matches
+/// none of them; or if it is `name` and `names` is true. The other custom sections are removed.
+///
+/// A pattern that ends with `*` matches the names that begin with the bytes before the `*`: `.debug_*` matches
+/// `.debug_line`, and `*` matches every name. Any other pattern matches only the name that equals it, also if it has a
+/// `*` before its last byte. So each name matches itself as a pattern, but the pattern `a*` matches more than the name
+/// `a*`.
 ///
 /// ```rattle
-/// // Two custom sections without data, "a" and "b".
-/// let bytes = b"\0asm\x01\0\0\0\0\x02\x01a\0\x02\x01b";
-/// let keep = Keep { names: false, kept: &["b"], removed: &[] };
+/// // Two custom sections without data, ".debug_str" and "b".
+/// let bytes = b"\0asm\x01\0\0\0\0\x0b\x0a.debug_str\0\x02\x01b";
+/// let keep = Keep { names: false, kept: &[], removed: &[".debug_*"] };
 /// let stripped = edit(alloc, bytes, &[Edit::Keep(keep)])?;
 /// assert_eq!(rt; stripped.as_slice(), b"\0asm\x01\0\0\0\0\x02\x01b".as_slice());
 /// ```
@@ -20,9 +25,9 @@ ghost use Rattle.wasm_edits.specs.Fates.{custom_stays, is_among as is_one_of, ot
 pub struct Keep<'a> {
     /// Whether the sections named `name` stay, which have the names of functions and other items.
     pub names: bool,
-    /// The names of sections that stay.
+    /// The patterns of the names of sections that stay.
     pub kept: &'a [&'a str],
-    /// The names of sections that are removed. If there are any, the sections with other names stay.
+    /// The patterns of the names of sections that are removed. If there are any, the sections with other names stay.
     pub removed: &'a [&'a str],
 }
 
@@ -39,13 +44,23 @@ impl Keep<'_> {
     }
 }
 
-// Whether a name is one of these.
-#[tactic(auto, using(std::proofs::lemmas::List::Folds::list_any_more, std::proofs::lemmas::List::Folds::list_any_at))]
-fn is_among(name: &[u8], names: &[&str]) -> bool
-    ensures { result ≡ is_one_of name.now names.now }
+// Whether a name matches a pattern.
+fn is_match(pattern: &[u8], name: &[u8]) -> bool
+    ensures { result ≡ matches pattern.now name.now }
 {
-    for one in names {
-        if name == one.as_bytes() {
+    match pattern {
+        [prefix @ .., b'*'] => name.starts_with(prefix),
+        _ => name == pattern,
+    }
+}
+
+// Whether a name matches one of these patterns.
+#[tactic(auto, using(std::proofs::lemmas::List::Folds::list_any_more, std::proofs::lemmas::List::Folds::list_any_at))]
+fn is_among(name: &[u8], patterns: &[&str]) -> bool
+    ensures { result ≡ is_one_of name.now patterns.now }
+{
+    for pattern in patterns {
+        if is_match(pattern.as_bytes(), name) {
             return true;
         }
     }
@@ -70,7 +85,9 @@ pub(crate) fn is_kept(name: &[u8], keep: Keep<'_>) -> bool
 
 /// Returns whether a custom section with this name stays.
 pub fn stays(name: &str, keep: Keep<'_>) -> bool
-    // Proved: a custom section stays if its name is chosen
+    // Proved: `stays` returns whether a custom section with a name stays. A pattern that ends with
+    //   `*` matches the names that begin with the bytes before the `*`, and any other pattern the
+    //   name that equals it [the clause of `stays` (`stays_by`, `matches`)]
     ensures { result ≡ stays_by keep.entry name.now }
 {
     is_kept(name.as_bytes(), keep)

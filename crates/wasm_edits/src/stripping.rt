@@ -73,8 +73,8 @@ fn move_kept(bytes: &mut [u8], keep: Keep<'_>) -> Result<usize>
 /// ```
 pub fn strip_to_front(bytes: &mut [u8], keep: Keep<'_>) -> Result<usize>
     // Proved: `strip_to_front` and `strip_in_place` keep what `strip` keeps and the custom sections
-    //   with the names in `kept`, and if `removed` has names, those with other names [their clauses
-    //   (`stays_by`)]
+    //   whose names match a pattern of `kept`, and if `removed` has patterns, those whose names
+    //   match none of them [their clauses (`stays_by`)]
     // Proved: `strip_to_front` moves the bytes that stay to the front of a slice and returns how
     //   many; for a stream that isn't accepted it returns the fault and leaves the bytes unchanged.
     //   It never returns `OutOfMemory` [the clause of `strip_to_front` (`StripsToFront`,

@@ -6,8 +6,8 @@ use std::process::Abort;
 use std::test::Fail;
 use test_devices::Sparing;
 use wasm_feed::{
-    BoundedSink, Edit, Ended, Keep, ListError, Sink, SliceSource, edit, strip, strip_in_place,
-    strip_stream, strip_to_front,
+    BoundedSink, Edit, Ended, Keep, ListError, Sink, SliceSource, edit, stays, strip,
+    strip_in_place, strip_stream, strip_to_front,
 };
 use wasm_parser::{Error, Fault, Result};
 
@@ -274,8 +274,8 @@ fn stripping_with_one_growth(rt: HostRuntime) {
 // A stream with the custom sections a, name and b.
 const CUSTOM: &[u8] = b"\0asm\x01\0\0\0\0\x02\x01a\0\x05\x04name\0\x02\x01b";
 
-// What is kept of it: the sections named name, those of the first list, and if there is a second list, those that are not in it.
-const CHOICES: [(bool, &[&str], &[&str], &[u8]); 6] = [
+// What is kept of it: the sections named name, those that match the first list, and if there is a second list, those that do not match it.
+const CHOICES: [(bool, &[&str], &[&str], &[u8]); 10] = [
     (false, &["b"], &[], b"\0asm\x01\0\0\0\0\x02\x01b"),
     (
         true,
@@ -302,6 +302,15 @@ const CHOICES: [(bool, &[&str], &[&str], &[u8]); 6] = [
         b"\0asm\x01\0\0\0\0\x05\x04name\0\x02\x01b",
     ),
     (false, &[], &["nam", "names"], CUSTOM),
+    (false, &["na*"], &[], b"\0asm\x01\0\0\0\0\x05\x04name"),
+    (
+        false,
+        &[],
+        &["c", "n*"],
+        b"\0asm\x01\0\0\0\0\x02\x01a\0\x02\x01b",
+    ),
+    (false, &["b*"], &["*"], b"\0asm\x01\0\0\0\0\x02\x01b"),
+    (false, &["*"], &[], CUSTOM),
 ];
 
 // The choices by a function, since a proof over them knows nothing of their names.
@@ -324,6 +333,55 @@ fn keeps_what_is_chosen(rt: HostRuntime) {
         };
         let left = edit(rt.alloc(), CUSTOM, &[Edit::Keep(keep)]).expect(&rt, "a fault");
         same_at(&rt, left.as_slice(), *wanted, wanted);
+    }
+}
+
+// A pattern, a name, and whether the name matches it.
+const PATTERNS: [(&str, &str, bool); 21] = [
+    (".debug_*", ".debug_line", true),
+    (".debug_*", ".debug_", true),
+    (".debug_*", ".debug", false),
+    (".debug_*", "x.debug_line", false),
+    (".debug_*", ".Debug_line", false),
+    (".debug_*", "", false),
+    ("*", "", true),
+    ("*", "*", true),
+    ("*", "name", true),
+    ("a*", "a*", true),
+    ("a*", "ab", true),
+    ("a**", "a*", true),
+    ("a**", "a*b", true),
+    ("a**", "ab", false),
+    ("a*b", "a*b", true),
+    ("a*b", "acb", false),
+    ("*a", "a", false),
+    ("*a", "*a", true),
+    ("a", "ab", false),
+    ("", "", true),
+    ("\u{3b1}*", "\u{3b1}x", true),
+];
+
+// The patterns by a function, since a proof over them knows nothing of their bytes.
+fn patterns() -> &'static [(&'static str, &'static str, bool)] {
+    &PATTERNS
+}
+
+#[test]
+fn names_that_match_patterns(rt: HostRuntime) {
+    for (pattern, name, is_match) in patterns() {
+        let kept = Keep {
+            names: false,
+            kept: &[*pattern],
+            removed: &[],
+        };
+        let removed = Keep {
+            names: false,
+            kept: &[],
+            removed: &[*pattern],
+        };
+        let place = (*pattern, *name);
+        same_at(&rt, stays(name, kept), *is_match, &place);
+        same_at(&rt, stays(name, removed), !*is_match, &place);
     }
 }
 
