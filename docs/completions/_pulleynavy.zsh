@@ -44,6 +44,7 @@ case $words[1] in
             '--keep-names[keep the sections called name]' \
             '*--keep[keep the custom sections with a name]:name:' \
             '*--only[remove only the custom sections with a name]:name:' \
+            '--debug[remove only the debug sections]' \
             ''{-o,--output}'[write to this file]:out:_files' \
             '--no-progress[show no progress of large files]' \
             ''{-h,--help}'[print a summary]' \

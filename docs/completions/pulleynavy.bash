@@ -6,7 +6,7 @@ _pulleynavy() {
         list) words="--json --no-progress -h --help -V --version" ;;
         dump) words="--names --bytes --hex --color --json --section --no-progress -h --help -V --version" ;;
         check) words="-q --quiet --no-progress -h --help -V --version" ;;
-        strip) words="--keep-names --keep --only -o --output --no-progress -h --help -V --version" ;;
+        strip) words="--keep-names --keep --only --debug -o --output --no-progress -h --help -V --version" ;;
         extract) words="--index -o --output --no-progress -h --help -V --version" ;;
         add) words="--replace -o --output --no-progress -h --help -V --version" ;;
         producers) words="--set -o --output --no-progress -h --help -V --version" ;;

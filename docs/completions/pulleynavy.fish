@@ -29,6 +29,7 @@ complete -c pulleynavy -n '__fish_seen_subcommand_from check' -s V -l version -d
 complete -c pulleynavy -n '__fish_seen_subcommand_from strip' -l keep-names -d 'keep the sections called name'
 complete -c pulleynavy -n '__fish_seen_subcommand_from strip' -l keep -x -d 'keep the custom sections with a name'
 complete -c pulleynavy -n '__fish_seen_subcommand_from strip' -l only -x -d 'remove only the custom sections with a name'
+complete -c pulleynavy -n '__fish_seen_subcommand_from strip' -l debug -d 'remove only the debug sections'
 complete -c pulleynavy -n '__fish_seen_subcommand_from strip' -s o -l output -r -d 'write to this file'
 complete -c pulleynavy -n '__fish_seen_subcommand_from strip' -l no-progress -d 'show no progress of large files'
 complete -c pulleynavy -n '__fish_seen_subcommand_from strip' -s h -l help -d 'print a summary'

@@ -72,23 +72,26 @@ COMMANDS = {
     },
     "strip": {
         "summary": "remove custom sections",
-        "call": "[--keep-names] [--keep NAME]... [--only NAME]... [-o OUT] [FILE]",
+        "call": "[--keep-names] [--keep NAME]... [--only NAME]... [--debug] [-o OUT] [FILE]",
         "about": (
-            "Writes FILE without its custom sections, such as names and debugging information. All other bytes stay as they are. If FILE is malformed, nothing is written.",
+            "Writes FILE without its custom sections, such as names and debugging information. All other bytes stay as they are. If FILE is malformed, nothing is written. Nothing is written to a terminal either: name OUT, or redirect the output.",
+            "A NAME that ends with '*' stands for all names that begin with what is before the '*'. Elsewhere in a NAME a '*' stands for itself. Quote it, so that the shell does not replace it.",
             "A regular file is read twice instead of being kept in memory: first to check it, then to write it. Standard input is read into memory.",
-            "Do not use --keep or --only on object files: their relocations name sections by number, and removing a section changes the numbers of those after it. Without either option all relocations are removed.",
+            "Do not use --keep, --only or --debug on object files: their relocations name sections by number, and removing a section changes the numbers of those after it. Without these options all relocations are removed.",
         ),
         "options": (
             ("--keep-names", None, "keep the sections called name", "Keeps the custom sections called 'name'."),
             ("--keep", "NAME", "keep the custom sections with a name", "Keeps the custom sections with this name. The option may be repeated."),
             ("--only", "NAME", "remove only the custom sections with a name", "Removes only the custom sections with this name, and those that other such options name. A section that another option keeps is not removed."),
+            ("--debug", None, "remove only the debug sections", "Removes only the debug sections, as --only '.debug_*' does, and those that --only names."),
             ("-o, --output", "OUT", "write to this file", "Writes to OUT instead of standard output. OUT is replaced once all of it is written, and may be FILE itself. It keeps its owner and permissions as far as the system allows, but not its set-user-ID and set-group-ID bits. A new file gets the permissions of FILE."),
         ),
         "good": "The file was stripped.",
         "bad": "The file has a fault, which is printed to standard error.",
         "examples": (
             ("Strip a module:", "pulleynavy strip a.wasm -o small.wasm"),
-            ("Remove one custom section:", "pulleynavy strip --only .debug_info a.wasm > small.wasm"),
+            ("Remove debugging information, and keep the names:", "pulleynavy strip --debug a.wasm -o small.wasm"),
+            ("Remove some custom sections:", "pulleynavy strip --only producers --only 'source*' a.wasm > small.wasm"),
         ),
     },
     "extract": {

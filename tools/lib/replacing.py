@@ -1,5 +1,5 @@
 """What no case of tools/lib/statuses.txt can say of the program pulleynavy: owners and modes of files that it replaces, the file that it writes
-meanwhile, and the progress that it shows on a terminal."""
+meanwhile, the progress that it shows on a terminal, and what it does not write to one."""
 import contextlib
 import glob
 import os
@@ -84,10 +84,10 @@ def takes_another_name(program):
         return common.read_bytes(stale) == b"stale\n" and common.read_bytes(path("out")) == HEADER
 
 
-def shown_on_terminal(*command):
-    """What a command writes to standard error, which is a terminal."""
+def written_to_terminal(run):
+    """What is written to a terminal while a function is called with it."""
     ours, theirs = pty.openpty()
-    subprocess.run(command, stdout=subprocess.DEVNULL, stderr=theirs, check=True)
+    run(theirs)
     os.close(theirs)
     shown = b""
     with contextlib.suppress(OSError):
@@ -95,6 +95,11 @@ def shown_on_terminal(*command):
             shown += os.read(ours, 4096)
     os.close(ours)
     return shown
+
+
+def shown_on_terminal(*command):
+    """What a command writes to standard error, which is a terminal."""
+    return written_to_terminal(lambda terminal: subprocess.run(command, stdout=subprocess.DEVNULL, stderr=terminal, check=True))
 
 
 def shows_progress(program):
@@ -107,7 +112,23 @@ def shows_progress(program):
         return shown.startswith(b"\r12 %\r24 %") and shown.endswith(b"\r\x1b[K") and others == [b"", b""]
 
 
-CASES = (keeps_owner, gives_mode, is_private, takes_another_name, shows_progress)
+def spares_terminals(program):
+    """A stripped module is written to a file or a pipe, and not to a terminal."""
+    said = b"pulleynavy strip: the output is a terminal: name a file with -o OUT, or redirect the output\n"
+    ends = []
+
+    def run(terminal):
+        for words in ([path("a.wasm")], ["-o", "-"], [path("a.wasm"), "-o", path("out")]):
+            done = subprocess.run([program, "strip", *words], input=HEADER, stdout=terminal, stderr=subprocess.PIPE)
+            ends.append((done.returncode, done.stderr))
+
+    with folder() as path:
+        common.write(path("a.wasm"), HEADER + b"\0\2\1a")
+        shown = written_to_terminal(run)
+        return not shown and ends == [(2, said), (2, said), (0, b"")] and common.read_bytes(path("out")) == HEADER
+
+
+CASES = (keeps_owner, gives_mode, is_private, takes_another_name, shows_progress, spares_terminals)
 
 
 def wrong(program):

@@ -18,9 +18,8 @@ use Rattle.wasm_io.specs.declared.devices.ListError.TheVariants.{Input, Output, 
 use Rattle.wasm_io.specs.declared.devices.source.Source.{Ghosts as SourceOf}
 use Rattle.wasm_streams.specs.declared.turns.Ended.{Ended}
 use Rattle.wasm_streams.specs.declared.turns.Ended.TheVariants.{End, Fault}
-use Rattle.wasm_commands.specs.EditsTwice.{EditsTwice, GoesOnAs}
-use Rattle.wasm_commands.specs.Rewrites.{EditsBy, EditsFile, EditsOriginal, EndsFile, EndsTarget, IsWritten, WritesAll, input_device}
-use Rattle.wasm_commands.specs.Rewrites.{is_whole}
+use Rattle.wasm_commands.specs.Rewrites.{EditsBy, EditsFile, EditsOriginal, EndsFile, EndsTarget, GoesOnAs, IsWritten, WritesAll}
+use Rattle.wasm_commands.specs.Rewrites.{input_device, is_whole}
 use Rattle.wasm_commands.specs.Runs.{Run}
 use Rattle.wasm_commands.specs.declared.reasons.Cause.{Cause}
 use Rattle.wasm_commands.specs.declared.rewriting.Original.{Original}
@@ -64,21 +63,17 @@ pub all_edited : (edits : List Edit) (input output : Device) → EditsSource edi
 all_edited edits input output s = all_parts edits input output s.middle s.failed s.parts s.edited s.ends
 
 -- the second reading of a file that was edited to its end
-pub all_twice : (edits : List Edit) (first second output : Device) → EditsTwice edits first second output (Ok End)
-    → EditsSource edits second output (Ok End)
-all_twice edits first second output t = by_first t.checked t.goes_on
-  where
-    by_first : (checked : Result Ended ListError) → GoesOnAs edits checked second output (Ok End)
-        → EditsSource edits second output (Ok End)
-    by_first (Ok End) g = g
-    by_first (Ok (Fault f)) g = absurd (let is = g.2 in cc)
-    by_first (Err why) g = absurd (let is = g.2 in cc)
+all_again : (edits : List Edit) (checked : Result Ended ListError) (second output : Device)
+    → GoesOnAs edits checked second output (Ok End) → EditsSource edits second output (Ok End)
+all_again edits (Ok End) second output g = g
+all_again edits (Ok (Fault f)) second output g = absurd (let is = g.2 in cc)
+all_again edits (Err why) second output g = absurd (let is = g.2 in cc)
 
 -- a stream that was written to its end, by what is held of it
 module _ {S I O : Type 0} (calls : SystemOf S I O) (sources : SourceOf I) (system : S) (edits : List Edit)
     (original : Original) (output : Device) where
   by_checked : (is_checked : Bool) → original.held ≡ None
-      → EditsFile calls sources system edits original.name.now is_checked output (Ok End)
+      → EditsFile calls sources system edits original.way.name.now is_checked output (Ok End)
       → IsWritten calls sources system edits original output
   by_checked true is e =
       let all = all_edited edits (input_device sources e.opened e.rest) output e.writes in
@@ -88,12 +83,11 @@ module _ {S I O : Type 0} (calls : SystemOf S I O) (sources : SourceOf I) (syste
         written = all.2;
       }
   by_checked false is e =
-      let again = all_twice edits (input_device sources e.first e.first_rest)
-      (input_device sources e.second e.second_rest) output e.writes in
-      let all = all_edited edits (input_device sources e.second e.second_rest) output again in
+      let again = all_again edits e.writes.checked (input_device sources e.opened.second e.rest.second) output e.writes.goes_on in
+      let all = all_edited edits (input_device sources e.opened.second e.rest.second) output again in
       record {
         stream = all.0;
-        given = rw is (record { opened = e.second; rest = e.second_rest; opens = e.reopens; gave = all.1 });
+        given = rw is (record { opened = e.opened.second; rest = e.rest.second; opens = e.reopens; gave = all.1 });
         written = all.2;
       }
 

@@ -1,8 +1,11 @@
 -- What the commands of the program do with files and devices.
 use Rattle.std.specs.Prelude.{◌≡◌, ℕ, Bool, true, false, List, [], ◌∷◌, codes, map, string_bytes, Option, Some}
 use Rattle.std.specs.Prelude.{None}
-use Rattle.std.specs.Prelude.{Result, Ok, Err}
+use Rattle.std.specs.Prelude.{Result, Ok, Err, String}
+use Rattle.std.specs.Vec.Iter.{into_iter_items}
+use Rattle.std.specs.declared.alloc.Global.{Global}
 use Rattle.std.specs.declared.io.Error.{Error}
+use Rattle.std.specs.declared.vec.IntoIter.{IntoIter}
 use Rattle.wasm_commands.specs.ArgumentLists.{Read, Wrong, arguments_of, has_option, operands_in, values_in}
 use Rattle.wasm_commands.specs.Checks.{ChecksFile}
 use Rattle.wasm_commands.specs.Formats.{format_asked}
@@ -31,9 +34,9 @@ use Rattle.wasm_io.specs.declared.devices.source.Source.{Ghosts as SourceOf}
 
 -- | an exit status that says how a run ended
 -- The step was done, and this is its status.
-abbrev pub Answers : {S : Type 0} → (step : Result (Unit {0}) ℕ → (old new : Run S) → Type 0) → (status : ℕ)
+abbrev pub Exits : {S : Type 0} → (step : Result (Unit {0}) ℕ → (old new : Run S) → Type 0) → (status : ℕ)
     → (old new : Run S) → Type 0
-Answers step status old new =
+Exits step status old new =
     (result : Result (Unit {0}) ℕ) × (status ≡ status_in result) × step result old new
 
 -- what is said of `--output` without `--set`
@@ -100,20 +103,28 @@ module _ {S I O : Type 0} (calls : SystemOf S I O) (sources : SourceOf I) where
   abbrev pub Checks : List Read → Result (Unit {0}) ℕ → (old new : Run S) → Type 0
   Checks reads = Then Allots (λ (allotted : Unit {0}). UsesFiles (Check (has_option Quiet reads)) (operands_in reads))
 
+  -- by whether `--output` is given
+  abbrev pub ShowsUnless : (has_output : Bool) → List Read → Result (Unit {0}) ℕ → (old new : Run S) → Type 0
+  ShowsUnless true reads = Stops 2 set_is_missing
+  ShowsUnless false reads = Shows verb.Producers reads
+
   -- what `producers` without `--set` does: it shows the section, and refuses `--output`
-  abbrev pub ShowsProducers : (has_output : Bool) → List Read → Result (Unit {0}) ℕ → (old new : Run S) → Type 0
-  ShowsProducers true reads = Stops 2 set_is_missing
-  ShowsProducers false reads = Shows verb.Producers reads
+  abbrev pub ShowsProducers : List Read → Result (Unit {0}) ℕ → (old new : Run S) → Type 0
+  ShowsProducers reads = ShowsUnless (has_option option.Output reads) reads
 
 module _ {S I O : Type 0} (calls : SystemOf S I O) (sources : SourceOf I) (sinks : SinkOf O) where
   -- what `producers` does, by the values of `--set`
   abbrev pub ProducersBy : (settings : List (List ℕ)) → List Read → Result (Unit {0}) ℕ → (old new : Run S) → Type 0
-  ProducersBy [] reads = ShowsProducers calls sources (has_option option.Output reads) reads
+  ProducersBy [] reads = ShowsProducers calls sources reads
   ProducersBy (word ∷ words) reads = SetsProducers calls sources sinks reads
+
+  -- It sets what `--set` says, or shows the section if there are no values.
+  abbrev pub SetsOrShows : List Read → Result (Unit {0}) ℕ → (old new : Run S) → Type 0
+  SetsOrShows reads = ProducersBy (values_in option.Set reads) reads
 
   -- | the command `producers`: it shows the section, or sets it [`ProducersBy`]
   abbrev pub Produces : List Read → Result (Unit {0}) ℕ → (old new : Run S) → Type 0
-  Produces reads = Then Allots (λ (allotted : Unit {0}). ProducersBy (values_in option.Set reads) reads)
+  Produces reads = Then Allots (λ (allotted : Unit {0}). SetsOrShows reads)
 
   -- What a command does with the files that its arguments name.
   abbrev pub RunsCommand : Verb → List Read → Result (Unit {0}) ℕ → (old new : Run S) → Type 0
@@ -165,8 +176,8 @@ module _ {S I O : Type 0} (calls : SystemOf S I O) (sources : SourceOf I) (sinks
   -- | the whole program, with its arguments as the system has them: after the program's name, unless one is not valid
   --   UTF-8, or memory runs out [`RunsGiven`; `wasm_console`: `Arguments.IsGiven`]
   -- The program was run with the arguments that the system has.
-  pub record RunsProgram {A : Type 0} (words : A → List (List ℕ)) (arguments : Result A Error) (status : ℕ)
-      (old new : Run S) : Type 0 where
+  pub record RunsProgram (arguments : Result (IntoIter (String Global) Global) Error) (status : ℕ) (old new : Run S)
+      : Type 0 where
     pub given : Given
-    pub stored : IsGiven words arguments given
-    pub answers : Answers (RunsGiven given) status old new
+    pub stored : IsGiven (λ args. map string_bytes (into_iter_items args)) arguments given
+    pub ends : Exits (RunsGiven given) status old new

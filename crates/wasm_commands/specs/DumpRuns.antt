@@ -1,6 +1,6 @@
 -- What a dump of an input does.
 use Rattle.std.specs.Prelude.{◌≡◌, ◌⊎◌, ℕ, Bool, true, List, Option, Result, Ok, Err}
-use Rattle.wasm_io.specs.Calls.{Device, bytes_of, device_of, input_failed, output_failed, writer_device}
+use Rattle.wasm_io.specs.Calls.{Device, bytes_of, input_failed, output_failed, writer_device}
 use Rattle.wasm_io.specs.declared.devices.sink.WriteSink.{WriteSink}
 use Rattle.wasm_io.specs.declared.devices.source.Source.{Ghosts as SourceOf}
 use Rattle.wasm_streams.specs.declared.turns.Ended.{Ended}
@@ -11,6 +11,7 @@ use Rattle.wasm_dumper.specs.declared.events.Shown.{Shown}
 use Rattle.wasm_commands.specs.Colors.{seen_as}
 use Rattle.wasm_commands.specs.Formats.{has_colors, style_of}
 use Rattle.wasm_commands.specs.declared.dump.format.Format.{Format}
+use Rattle.wasm_commands.specs.Rewrites.{input_device}
 
 -- What was written was flushed, or the output failed; after a dump that failed nothing is done.
 abbrev pub Flushes : (how : Result Ended ListError) (had_failed has_failed forwarded : Bool) → Result Ended ListError
@@ -31,7 +32,7 @@ pub record DumpsAs (format : Format) (shown : Shown) (input output : Device) (ho
 abbrev pub DumpsTo : {R W : Type 0} → SourceOf R → (contents : W → Option (List ℕ)) → (format : Format) (shown : Shown)
     (opened rest : R) (old new : WriteSink W) (how : Result Ended ListError) → Type 0
 DumpsTo sources contents format shown opened rest old new how =
-    DumpsAs format shown (device_of sources.remaining sources.has_failed opened rest)
+    DumpsAs format shown (input_device sources opened rest)
     (seen_as (has_colors format) (writer_device contents old new)) how
 
 -- | a dump and then flushing its output
@@ -47,5 +48,5 @@ pub record RunsDump (format : Format) (shown : Shown) (input output : Device) (f
 abbrev pub RunsTo : {R W : Type 0} → SourceOf R → (contents : W → Option (List ℕ)) → (format : Format) (shown : Shown)
     (opened rest : R) (old new : WriteSink W) (result : Result Ended ListError) → Type 0
 RunsTo sources contents format shown opened rest old new result =
-    RunsDump format shown (device_of sources.remaining sources.has_failed opened rest)
+    RunsDump format shown (input_device sources opened rest)
     (seen_as (has_colors format) (writer_device contents old new)) new.forwarded result

@@ -4,7 +4,6 @@ pub mod Choices
 pub mod Colors
 pub mod Commands
 pub mod DumpRuns
-pub mod EditsTwice
 pub mod Finding
 pub mod FirstNamed
 pub mod Formats

@@ -139,6 +139,10 @@ names_text name = codes "pulleynavy dump: --names reads each file twice, and " +
 abbrev pub input_twice_text : List ℕ
 input_twice_text = about_word verb.Add (codes "'") (codes "-") (codes "' can be read only once")
 
+-- a module that `strip` is to write to a terminal
+abbrev pub terminal_text : List ℕ
+terminal_text = codes "pulleynavy strip: the output is a terminal: name a file with -o OUT, or redirect the output\n"
+
 -- what is wrong with the arguments
 abbrev pub complaint_text : Complaint → List ℕ
 complaint_text (complaint.Argument verb refusal) = refusal_text verb refusal
@@ -155,4 +159,5 @@ complaint_text (complaint.UnknownOption word) = unknown_option_text word.now
 complaint_text complaint.NoCommand = no_command_text
 complaint_text (complaint.NamesOf name) = names_text name.now
 complaint_text complaint.InputTwice = input_twice_text
+complaint_text complaint.Terminal = terminal_text
 complaint_text complaint.NotUtf8 = codes "pulleynavy: an argument is not valid UTF-8\n"

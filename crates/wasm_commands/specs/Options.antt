@@ -3,7 +3,8 @@ use Rattle.std.specs.Prelude.{ℕ, Bool, true, false, List, codes, bytes_eq, nat
 use Rattle.wasm_commands.specs.declared.options.Flag.{Flag}
 use Rattle.wasm_commands.specs.declared.options.Flag.TheVariants.{Help, Version, Json, Names, Bytes, Hex, Color}
 use Rattle.wasm_commands.specs.declared.options.Flag.TheVariants.{Section}
-use Rattle.wasm_commands.specs.declared.options.Flag.TheVariants.{Quiet, KeepNames, Keep, Only, Output, NoProgress}
+use Rattle.wasm_commands.specs.declared.options.Flag.TheVariants.{Quiet, KeepNames, Keep, Only, Debug, Output}
+use Rattle.wasm_commands.specs.declared.options.Flag.TheVariants.{NoProgress}
 use Rattle.wasm_commands.specs.declared.options.Flag.TheVariants.{Index, Replace, Set}
 use Rattle.wasm_commands.specs.declared.options.Takes.{Takes}
 use Rattle.wasm_commands.specs.declared.options.Takes.TheVariants.{Nothing, Value, Attached}
@@ -42,6 +43,7 @@ option_named word =
     else if bytes_eq word (codes "--keep-names") then Some KeepNames
     else if bytes_eq word (codes "--keep") then Some Keep
     else if bytes_eq word (codes "--only") then Some Only
+    else if bytes_eq word (codes "--debug") then Some Debug
     else if bytes_eq word (codes "--output") then Some Output
     else if bytes_eq word (codes "-o") then Some Output
     else if bytes_eq word (codes "--no-progress") then Some NoProgress
@@ -103,6 +105,7 @@ accepts_option verb Quiet = is_check verb
 accepts_option verb KeepNames = is_strip verb
 accepts_option verb Keep = is_strip verb
 accepts_option verb Only = is_strip verb
+accepts_option verb Debug = is_strip verb
 accepts_option verb Output = is_written verb
 accepts_option verb Index = is_extract verb
 accepts_option verb Replace = is_add verb
@@ -133,11 +136,12 @@ place_of Quiet = 8
 place_of KeepNames = 9
 place_of Keep = 10
 place_of Only = 11
-place_of Output = 12
-place_of NoProgress = 13
-place_of Index = 14
-place_of Replace = 15
-place_of Set = 16
+place_of Debug = 12
+place_of Output = 13
+place_of NoProgress = 14
+place_of Index = 15
+place_of Replace = 16
+place_of Set = 17
 
 abbrev pub is_same : Flag → Flag → Bool
 is_same a b = nat_eq (place_of a) (place_of b)

@@ -27,9 +27,9 @@ use Rattle.wasm_commands.specs.Finding.{FindsSection}
 use Rattle.wasm_commands.specs.FirstNamed.{FindsFirst, ReplacesFirst}
 use Rattle.wasm_commands.specs.Messages.{about_word, command_text, input_twice_text, missing_text, wrong_value_text}
 use Rattle.wasm_commands.specs.Parsing.{texts}
-use Rattle.wasm_commands.specs.Rewrites.{Changes, EditsTo, EndsRun, Finds, Gave, Holds, Opens, WritesTo}
-use Rattle.wasm_commands.specs.Rewrites.{Route, route_from, target_in}
-use Rattle.wasm_commands.specs.Runs.{Allots, IsSound, Run, RunsOut, Stops, StopsAtFault, Then}
+use Rattle.wasm_commands.specs.Rewrites.{Changes, EditsTo, EndsRun, Finds, Gave, Holds, Opens, SparesTerminal}
+use Rattle.wasm_commands.specs.Rewrites.{Route, WritesTo, route_from, target_in}
+use Rattle.wasm_commands.specs.Runs.{Allots, IsSound, Makes, Run, RunsOut, Stops, StopsAtFault, Then}
 use Rattle.wasm_commands.specs.declared.add.Addition.{Addition}
 use Rattle.wasm_commands.specs.declared.add.Loaded.{Loaded}
 use Rattle.wasm_commands.specs.declared.add.Operands.{Operands}
@@ -65,11 +65,20 @@ abbrev pub TakesFile : {S : Type 0} → Verb → (operands : List (List ℕ)) �
     → Type 0
 TakesFile verb operands = Then Allots (λ (allotted : Unit {0}). TakesOnly verb operands)
 
+-- what `--debug` removes: the sections with debugging information
+abbrev pub debug_patterns : (is_asked : Bool) → List (List ℕ)
+debug_patterns true = codes ".debug_*" ∷ []
+debug_patterns false = []
+
+-- the patterns of the sections that `strip` removes: the values of `--only`, and that of `--debug`
+abbrev pub removed_in : List Read → List (List ℕ)
+removed_in reads = values_in option.Only reads ++ debug_patterns (has_option option.Debug reads)
+
 -- These sections stay by the options of `strip`.
 pub record IsKept (reads : List Read) (keep : Keep) : Type 0 where
   pub names : keep.names ≡ has_option option.KeepNames reads
   pub kept : texts keep.kept.now ≡ values_in option.Keep reads
-  pub removed : texts keep.removed.now ≡ values_in option.Only reads
+  pub removed : texts keep.removed.now ≡ removed_in reads
 
 -- the number that a word is: decimal digits, with an optional plus before them
 abbrev pub number_in : (word : List ℕ) → ℕ
@@ -299,7 +308,7 @@ module _ {S I O : Type 0} (calls : SystemOf S I O) (sinks : SinkOf O) (route : R
   EndsExtract wanted (Err e) = StopsAtFault route.name e
 
   -- The data of the section were written, if the stream has it before its first fault.
-  pub record ExtractsFrom (wanted : Wanted) (stream : List ℕ) (result : Result (Unit {0}) ℕ)
+  pub record ExtractsIn (wanted : Wanted) (stream : List ℕ) (result : Result (Unit {0}) ℕ)
       (old new : Run S) : Type 0 where
     pub found : Result (Option Custom) Error
     pub finds : FindsSection wanted.name.now wanted.before stream found
@@ -349,15 +358,10 @@ module _ {S I O : Type 0} (calls : SystemOf S I O) (sinks : SinkOf O) (route : R
     pub named : new_section.name.now ≡ codes "producers"
     pub sets : SetsNew new_section stream result old new
 
-  -- The first section with producers was looked for and changed, or has a fault.
-  pub record SetsFound (stream : List ℕ) (result : Result (Unit {0}) ℕ) (old new : Run S) : Type 0 where
-    pub change : Result (Vec ℕ Global) Error
-    pub finds : FindsChange stream change
-    pub ends : Then (IsSound route.name change) (λ changed. SetsSection stream) result old new
-
-  -- The same, unless memory ran out before.
+  -- The first section with producers was looked for and changed, or has a fault, unless memory ran out.
   abbrev pub SetsHeld : (stream : List ℕ) → Result (Unit {0}) ℕ → (old new : Run S) → Type 0
-  SetsHeld stream = Then Allots (λ (allotted : Unit {0}). SetsFound stream)
+  SetsHeld stream = Then (Makes (FindsChange stream)) (λ change.
+      Then (IsSound {A = Vec ℕ Global} route.name change) (λ changed. SetsSection stream))
 
 module _ {S I O : Type 0} (calls : SystemOf S I O) (sources : SourceOf I) (sinks : SinkOf O) (reads : List Read) where
   -- The sections of a file stay that are to be kept, and other custom sections are removed.
@@ -366,18 +370,19 @@ module _ {S I O : Type 0} (calls : SystemOf S I O) (sources : SourceOf I) (sinks
     pub kept : IsKept reads keep
     pub changes : Changes calls sources sinks (edit.Keep keep ∷ []) (route_from name reads) result old new
 
-  -- | the command `strip`: the file or standard input, the sections that stay by `--keep`, `--only` and `--keep-names`,
-  --   and where the stream is written
+  -- | the command `strip`: the file or standard input, the sections that stay by `--keep`, `--only`, `--debug` and
+  --   `--keep-names`, and where the stream is written, which is no terminal [`Strips`, `removed_in`]
   abbrev pub Strips : Result (Unit {0}) ℕ → (old new : Run S) → Type 0
   Strips = Then Allots (λ (kept : Unit {0}). Then Allots (λ (removed : Unit {0}).
-      Then (TakesFile verb.Strip (operands_in reads)) (λ file. StripsFile file.now)))
+      Then (TakesFile verb.Strip (operands_in reads)) (λ file.
+      Then (SparesTerminal calls (target_in reads)) (λ (spared : Unit {0}). StripsFile file.now))))
 
   -- | the command `extract`: the file or standard input, the section that is found by its name and `--index`, and where
   --   its data are written
   abbrev pub Extracts : Result (Unit {0}) ℕ → (old new : Run S) → Type 0
   Extracts = Then (TakesSection (operands_in reads)) (λ taken.
       Then (TakesIndex (last_value option.Index None reads)) (λ skips. Then (Holds calls sources taken.1.now)
-      (λ bytes. ExtractsFrom calls sinks (route_from taken.1.now reads) (record { name = taken.0; before = skips })
+      (λ bytes. ExtractsIn calls sinks (route_from taken.1.now reads) (record { name = taken.0; before = skips })
       bytes.items)))
 
   -- | the command `producers --set`: the file or standard input, the section that is set, and where the stream is
@@ -429,62 +434,33 @@ abbrev pub TakesAdditions : {S : Type 0} → (operands : List (List ℕ))
     → Result (Vec Addition Global × Bor (List ℕ)) ℕ → (old new : Run S) → Type 0
 TakesAdditions operands = Then Allots (λ (allotted : Unit {0}). TakesParts operands)
 
-module _ {S I O : Type 0} (calls : SystemOf S I O) (sources : SourceOf I) (sinks : SinkOf O)
-    (target : Option (List ℕ)) where
-  -- The stream was written with these edits, or they were refused since a section is too large.
-  abbrev pub WritesAdded : (edits : List Edit) (original : Original) → Result (Unit {0}) ℕ → (old new : Run S) → Type 0
-  WritesAdded edits original result old new =
-      ((¬ All CanBeMade edits) × (name : List ℕ) × Stops 2 (too_large_text verb.Add name) result old new)
-      ⊎ EditsTo calls sources sinks edits original target result old new
+-- the edits that add sections, of which these are the names and data
+module _ {S : Type 0} (loaded : List (List ℕ × List ℕ)) where
+  -- Each section is added by one edit, in order, unless memory ran out.
+  abbrev pub AddsEach : (is_added : List ℕ × List ℕ → Edit → Type 0) → Result (Vec Edit Global) ℕ → (old new : Run S)
+      → Type 0
+  AddsEach is_added = Makes (λ edits. EachInTurn is_added loaded edits.items)
 
-  -- Each section is added by one edit, in order.
-  pub record AddsEach (is_added : List ℕ × List ℕ → Edit → Type 0) (loaded : List (List ℕ × List ℕ))
-      (original : Original) (result : Result (Unit {0}) ℕ) (old new : Run S) : Type 0 where
-    pub edits : List Edit
-    pub each : EachInTurn is_added loaded edits
-    pub writes : WritesAdded edits original result old new
+  -- The sections are added to a stream in memory, and those whose name it has are replaced; or the stream has its first
+  -- fault before one that is looked for, and this was said.
+  abbrev pub AddsHeld : (name stream : List ℕ) → Result (Vec Edit Global) ℕ → (old new : Run S) → Type 0
+  AddsHeld name stream = Then (Makes (AddsTo stream loaded)) (IsSound name)
 
-  abbrev pub AddsBy : (is_added : List ℕ × List ℕ → Edit → Type 0) (loaded : List (List ℕ × List ℕ))
-      (original : Original) → Result (Unit {0}) ℕ → (old new : Run S) → Type 0
-  AddsBy is_added loaded original = Then Allots (λ (allotted : Unit {0}). AddsEach is_added loaded original)
-
-  -- The stream has its first fault before one of the sections that are looked for, and this was said.
-  pub record FindsFault (file stream : List ℕ) (result : Result (Unit {0}) ℕ) (old new : Run S) : Type 0 where
-    pub name : List ℕ
-    pub fault : Error
-    pub finds : FindsSection name 0 stream (Err fault)
-    pub stops : StopsAtFault file fault result old new
-
-  -- The sections are added to a stream in memory. Those whose name it has are replaced.
-  abbrev pub AddsHeld : (stream : List ℕ) (loaded : List (List ℕ × List ℕ)) (original : Original)
-      → Result (Unit {0}) ℕ → (old new : Run S) → Type 0
-  AddsHeld stream loaded original = Then Allots (λ (allotted : Unit {0}) result old new.
-      AddsEach (IsAddedTo stream) loaded original result old new ⊎ FindsFault original.name.now stream result old new)
-
-  -- The file was searched, read to its end and then written with the sections.
-  pub record AddsFound (loaded : List (List ℕ × List ℕ)) (name : List ℕ) (result : Result (Unit {0}) ℕ)
-      (old new : Run S) : Type 0 where
-    pub original : Original
-    pub named : original.name.now ≡ name
-    pub checked : original.is_checked ≡ true
-    pub held : original.held ≡ None
-    pub adds : AddsBy IsAdded loaded original result old new
-
-  abbrev pub ReplacesInFile : (loaded : List (List ℕ × List ℕ)) (name : List ℕ) → Result (Unit {0}) ℕ
-      → (old new : Run S) → Type 0
-  ReplacesInFile loaded name =
-      Then (Searches calls name) (λ (found : Unit {0}). AddsFound loaded name)
+module _ {S I O : Type 0} (calls : SystemOf S I O) (loaded : List (List ℕ × List ℕ)) where
+  -- The file was searched to its end, and the sections are added.
+  abbrev pub AddsFound : (name : List ℕ) → Result (Vec Edit Global) ℕ → (old new : Run S) → Type 0
+  AddsFound name = Then (Searches calls name) (λ (found : Unit {0}). AddsEach loaded IsAdded)
 
   -- with `--replace`, by what is held of the stream
-  abbrev pub AddsReplaced : (loaded : List (List ℕ × List ℕ)) (original : Original) → Option (Vec ℕ Global)
-      → Result (Unit {0}) ℕ → (old new : Run S) → Type 0
-  AddsReplaced loaded original (Some held) = AddsHeld held.items loaded original
-  AddsReplaced loaded original None = ReplacesInFile loaded original.name.now
+  abbrev pub AddsReplaced : (name : List ℕ) → Option (Vec ℕ Global) → Result (Vec Edit Global) ℕ → (old new : Run S)
+      → Type 0
+  AddsReplaced name (Some held) = AddsHeld loaded name held.items
+  AddsReplaced name None = AddsFound name
 
-  abbrev pub AddsLoaded : (replaces : Bool) → (loaded : List (List ℕ × List ℕ)) (original : Original)
-      → Result (Unit {0}) ℕ → (old new : Run S) → Type 0
-  AddsLoaded false loaded original = AddsBy (IsAddedBy false) loaded original
-  AddsLoaded true loaded original = AddsReplaced loaded original original.held
+  abbrev pub AddsBy : (original : Original) → (replaces : Bool) → Result (Vec Edit Global) ℕ → (old new : Run S)
+      → Type 0
+  AddsBy original false = AddsEach loaded (IsAddedBy false)
+  AddsBy original true = AddsReplaced original.way.name.now original.held
 
 -- these are what was prepared
 abbrev pub IsPrepared : {S : Type 0} → Vec Loaded Global → Original → Result (Vec Loaded Global × Original) ℕ
@@ -493,16 +469,25 @@ IsPrepared loaded original result old new = (result ≡ Ok (loaded, original)) �
 
 module _ {S I O : Type 0} (calls : SystemOf S I O) (sources : SourceOf I) where
   -- The data of all sections were read, and then the stream to which they are added.
-  abbrev pub Prepares : (operands : List (List ℕ)) → Result (Vec Loaded Global × Original) ℕ → (old new : Run S)
-      → Type 0
-  Prepares operands = Then (TakesAdditions operands) (λ taken.
+  abbrev pub Prepares : List Read → Result (Vec Loaded Global × Original) ℕ → (old new : Run S) → Type 0
+  Prepares reads = Then (TakesAdditions (operands_in reads)) (λ taken.
       Then (LoadsAll calls sources (map parts_of taken.0.items)) (λ loaded.
-      Then (Finds calls sources taken.1.now) (λ original. IsPrepared loaded original)))
+      Then (Finds calls sources (route_from taken.1.now reads)) (λ original. IsPrepared loaded original)))
 
 module _ {S I O : Type 0} (calls : SystemOf S I O) (sources : SourceOf I) (sinks : SinkOf O) where
+  -- The stream was written with these edits, or they were refused since a section is too large.
+  abbrev pub WritesAdded : (edits : List Edit) (original : Original) → Result (Unit {0}) ℕ → (old new : Run S) → Type 0
+  WritesAdded edits original result old new =
+      ((¬ All CanBeMade edits) × (name : List ℕ) × Stops 2 (too_large_text verb.Add name) result old new)
+      ⊎ EditsTo calls sources sinks edits original result old new
+
+  -- These sections were added to the stream. One that was searched for their names has no fault.
+  abbrev pub AddsTaken : (replaces : Bool) → Vec Loaded Global × Original → Result (Unit {0}) ℕ → (old new : Run S)
+      → Type 0
+  AddsTaken replaces taken = Then (AddsBy calls (map loaded_parts taken.0.items) taken.1 replaces)
+      (λ edits. WritesAdded edits.items (record taken.1 { is_checked = replaces }))
+
   -- | the command `add`: the sections and the files with their data, the file or standard input to which they are
-  --   added, and where the stream is written [`Prepares`, `AddsLoaded`, `AddsBy`]
+  --   added, and where the stream is written [`Prepares`, `AddsBy`, `WritesAdded`]
   abbrev pub Adds : List Read → Result (Unit {0}) ℕ → (old new : Run S) → Type 0
-  Adds reads = Then (Prepares calls sources (operands_in reads))
-      (λ prepared. AddsLoaded calls sources sinks (target_in reads)
-      (has_option option.Replace reads) (map loaded_parts prepared.0.items) prepared.1)
+  Adds reads = Then (Prepares calls sources reads) (AddsTaken (has_option option.Replace reads))

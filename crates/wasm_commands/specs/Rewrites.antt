@@ -1,5 +1,5 @@
 -- What the commands that write a stream do: which files they open, what they write of them, and which file is replaced.
-use Rattle.std.specs.Prelude.{◌≡◌, ◌⊎◌, ℕ, Bool, true, false, List, take, codes, bytes_eq, Option, Some, None}
+use Rattle.std.specs.Prelude.{◌≡◌, ◌⊎◌, ℕ, Bool, true, false, List, [], take, codes, bytes_eq, Option, Some, None}
 use Rattle.std.specs.Prelude.{Vec, Result, Ok, Err, if◌then◌else◌}
 use Rattle.std.specs.Io.KnownBytes.{Appends, Consumes, IsAtEnd, Keeps}
 use Rattle.std.specs.declared.alloc.Global.{Global}
@@ -19,12 +19,13 @@ use Rattle.wasm_edits.specs.declared.edits.Edit.{Edit}
 use Rattle.wasm_console.specs.Devices.{IsUntouched}
 use Rattle.wasm_console.specs.Strips.{ReadsAll}
 use Rattle.wasm_commands.specs.ArgumentLists.{Read, last_value}
-use Rattle.wasm_commands.specs.EditsTwice.{EditsTwice}
 use Rattle.wasm_commands.specs.Parsing.{text_if_any}
-use Rattle.wasm_commands.specs.Runs.{Fails, FailsToWrite, RefusesFor, Run, StopsAtFault, Then, output_of}
+use Rattle.wasm_commands.specs.Messages.{terminal_text}
+use Rattle.wasm_commands.specs.Runs.{Fails, FailsToWrite, RefusesFor, Run, Stops, StopsAtFault, Then, output_of}
 use Rattle.wasm_commands.specs.declared.options.Flag.TheVariants as option
 use Rattle.wasm_commands.specs.declared.reasons.Cause.{Cause}
 use Rattle.wasm_commands.specs.declared.rewriting.Original.{Original}
+use Rattle.wasm_commands.specs.declared.rewriting.twice.Reopened.{Reopened}
 use Rattle.wasm_commands.specs.declared.rewriting.Way.{Way}
 use Rattle.wasm_commands.specs.declared.system.System.{Ghosts as SystemOf}
 
@@ -89,11 +90,6 @@ pub record OnlyWrites {S : Type 0} (old new : Run S) : Type 0 where
   pub system : new.system ≡ old.system
   pub said : new.said ≡ old.said
 
--- The bytes were written to the output and flushed, or the output failed.
-pub record ForwardsBytes (bytes : List ℕ) (output : Device) (forwarded : Bool) (is_complete : Bool) : Type 0 where
-  pub writes : WritesBytes bytes output is_complete
-  pub all : is_complete ≡ true → forwarded ≡ true
-
 -- the command goes on after all of them, and stops if the output failed
 abbrev pub EndsBytes : {S : Type 0} → (is_complete : Bool) → Result (Unit {0}) ℕ → (old new : Run S) → Type 0
 EndsBytes true result old new = (result ≡ Ok tt) × (new ≡ old)
@@ -104,7 +100,8 @@ EndsBytes false result old new = Fails (codes "-") Output result old new
 pub record WritesOut {S : Type 0} (bytes : List ℕ) (result : Result (Unit {0}) ℕ) (old new : Run S) : Type 0 where
   pub is_complete : Bool
   pub middle : Run S
-  pub forwards : ForwardsBytes bytes (output_of old middle) middle.forwarded is_complete
+  pub writes : WritesBytes bytes (output_of old middle) is_complete
+  pub all : is_complete ≡ true → middle.forwarded ≡ true
   pub only : OnlyWrites old middle
   pub ends : EndsBytes is_complete result middle new
 
@@ -153,10 +150,36 @@ route way = record { name = way.name.now; target = text_if_any way.target }
 abbrev pub route_from : (name : List ℕ) → List Read → Route
 route_from name reads = record { name = name; target = target_in reads }
 
--- ---- the files of a system, by what its calls may return
+-- ---- sources and sinks as devices, by what their traits say of them
 
-abbrev pub input_device : {I : Type 0} → SourceOf I → (opened rest : I) → Device
-input_device sources opened rest = device_of sources.remaining sources.has_failed opened rest
+abbrev pub input_device : {I : Type 0} → SourceOf I → (old new : I) → Device
+input_device sources old new = device_of sources.remaining sources.has_failed old new
+
+abbrev pub sink_device : {O : Type 0} → SinkOf O → (old new : O) → Device
+sink_device sinks old new = device_of sinks.taken sinks.has_failed old new
+
+-- ---- a file that is read once to be checked, and again to be written
+
+-- a device that drops what is written to it
+abbrev pub dropped : Device
+dropped = record { before = None; after = None; had_failed = false; has_failed = false }
+
+-- what is done after the first reading: only a file without a fault is read again and written
+abbrev pub GoesOnAs : List Edit → (checked : Result Ended ListError) → (second output : Device)
+    → (how : Result Ended ListError) → Type 0
+GoesOnAs edits (Ok End) second output how = EditsSource edits second output how
+GoesOnAs edits (Ok (Fault e)) second output how = IsUntouched second × IsUntouched output × (how ≡ Ok (Fault e))
+GoesOnAs edits (Err why) second output how = IsUntouched second × IsUntouched output × (how ≡ Err why)
+
+-- | a file that is edited: it is read once to its end, and if there is no fault, again to be written
+-- a file that was edited
+pub record EditsTwice {I : Type 0} (sources : SourceOf I) (edits : List Edit) (old new : Reopened I) (output : Device)
+    (how : Result Ended ListError) : Type 0 where
+  pub checked : Result Ended ListError
+  pub checks : EditsSource [] (input_device sources old.first new.first) dropped checked
+  pub goes_on : GoesOnAs edits checked (input_device sources old.second new.second) output how
+
+-- ---- the files of a system, by what its calls may return
 
 -- What was written was flushed at its end, and the command goes on or stops.
 pub record Forwards {S : Type 0} (name : List ℕ) (how : Result Ended ListError) (result : Result (Unit {0}) ℕ)
@@ -173,7 +196,19 @@ abbrev pub EndsOutput : {S : Type 0} → (name : List ℕ) → Result (Result En
 EndsOutput name (Ok how) result old new = Forwards name how result old new
 EndsOutput name (Err cause) result old new = RefusesFor name cause result old new
 
+-- The command stops with a message if this is so, and otherwise goes on.
+abbrev pub StopsIf : {S : Type 0} → (is_so : Bool) → (text : List ℕ) → Result (Unit {0}) ℕ → (old new : Run S) → Type 0
+StopsIf true text result old new = Stops 2 text result old new
+StopsIf false text result old new = (result ≡ Ok tt) × (new ≡ old)
+
 module _ {S I O : Type 0} (calls : SystemOf S I O) where
+  -- | a module that would be written to a terminal: the command says so, stops, and writes nothing
+  -- Without a file to write, the system said whether the output is a terminal, and the command stops if it is one.
+  abbrev pub SparesTerminal : (target : Option (List ℕ)) → Result (Unit {0}) ℕ → (old new : Run S) → Type 0
+  SparesTerminal (Some target) result old new = (result ≡ Ok tt) × (new ≡ old)
+  SparesTerminal None result old new =
+      (is_terminal : Bool) × calls.shows old.system is_terminal × StopsIf is_terminal terminal_text result old new
+
   -- | a file that is opened, or refused with the system's reason
   -- The file was opened, or it was said why not.
   abbrev pub Opens : (name : List ℕ) → Result I ℕ → (old new : Run S) → Type 0
@@ -232,8 +267,8 @@ module _ {S I O : Type 0} (calls : SystemOf S I O) (sources : SourceOf I) where
   Holds name (Err status) old new = Opens calls name (Err status) old new ⊎ CannotRead name status old new
 
   -- the stream of a file, of which nothing was checked yet
-  pub record IsOriginal (name : List ℕ) (original : Original) : Type 0 where
-    pub named : original.name.now ≡ name
+  pub record IsOriginal (from : Route) (original : Original) : Type 0 where
+    pub routed : route original.way ≡ from
     pub unchecked : original.is_checked ≡ false
 
   -- what is held of a stream that is to be changed: nothing if it can be read again, else all of it
@@ -243,9 +278,9 @@ module _ {S I O : Type 0} (calls : SystemOf S I O) (sources : SourceOf I) where
 
   -- | the stream that is to be changed: a file that can be read again, or what was read of another one
   -- The stream to change was found, or could not be read.
-  abbrev pub Finds : (name : List ℕ) → Result Original ℕ → (old new : Run S) → Type 0
-  Finds name (Ok original) old new = IsOriginal name original × IsHeld name original.held old new
-  Finds name (Err status) old new = calls.rereads old.system name false × Holds name (Err status) old new
+  abbrev pub Finds : Route → Result Original ℕ → (old new : Run S) → Type 0
+  Finds from (Ok original) old new = IsOriginal from original × IsHeld from.name original.held old new
+  Finds from (Err status) old new = calls.rereads old.system from.name false × Holds from.name (Err status) old new
 
   -- The file was opened once, and read while it was written with edits.
   pub record EditsOpened (system : S) (edits : List Edit) (name : List ℕ) (output : Device)
@@ -258,14 +293,11 @@ module _ {S I O : Type 0} (calls : SystemOf S I O) (sources : SourceOf I) where
   -- The file was opened twice: it was read to be checked, and again while it was written with edits.
   pub record EditsReopened (system : S) (edits : List Edit) (name : List ℕ) (output : Device)
       (how : Result Ended ListError) : Type 0 where
-    pub first : I
-    pub first_rest : I
-    pub second : I
-    pub second_rest : I
-    pub opens : calls.opens system name (Ok first)
-    pub reopens : calls.opens system name (Ok second)
-    pub writes : EditsTwice edits (input_device sources first first_rest)
-        (input_device sources second second_rest) output how
+    pub opened : Reopened I
+    pub rest : Reopened I
+    pub opens : calls.opens system name (Ok opened.first)
+    pub reopens : calls.opens system name (Ok opened.second)
+    pub writes : EditsTwice sources edits opened rest output how
 
   -- a file that was opened, by whether it was checked before
   abbrev pub EditsFile : (system : S) (edits : List Edit) (name : List ℕ) (is_checked : Bool) (output : Device)
@@ -278,7 +310,7 @@ module _ {S I O : Type 0} (calls : SystemOf S I O) (sources : SourceOf I) where
       → (output : Device) → Result Ended ListError → Type 0
   EditsBy system edits original (Some held) output how = EditsHeld edits held.items output how
   EditsBy system edits original None output how =
-      EditsFile system edits original.name.now original.is_checked output how
+      EditsFile system edits original.way.name.now original.is_checked output how
 
   -- The file was opened, and these are bytes that it gave.
   pub record GaveSome (system : S) (name bytes : List ℕ) : Type 0 where
@@ -295,7 +327,7 @@ module _ {S I O : Type 0} (calls : SystemOf S I O) (sources : SourceOf I) where
   -- All of the stream was written with the edits.
   pub record IsWritten (system : S) (edits : List Edit) (original : Original) (output : Device) : Type 0 where
     pub stream : List ℕ
-    pub given : IsStreamOf system original.name.now original.held stream
+    pub given : IsStreamOf system original.way.name.now original.held stream
     pub written : WritesAll edits stream output
 
   -- | a stream that is edited and written: the bytes that are held of it, or its file, which is read again
@@ -304,7 +336,7 @@ module _ {S I O : Type 0} (calls : SystemOf S I O) (sources : SourceOf I) where
       → Result (Result Ended ListError) Cause → Type 0
   EditsOriginal system edits original output (Ok how) = EditsBy system edits original original.held output how
   EditsOriginal system edits original output (Err cause) =
-      (original.held ≡ None) × calls.opens system original.name.now (Err cause) × IsUntouched output
+      (original.held ≡ None) × calls.opens system original.way.name.now (Err cause) × IsUntouched output
 
   -- The stream was written to the output with edits, and flushed.
   pub record EditsOut (edits : List Edit) (original : Original) (result : Result (Unit {0}) ℕ) (old new : Run S)
@@ -313,7 +345,7 @@ module _ {S I O : Type 0} (calls : SystemOf S I O) (sources : SourceOf I) where
     pub edited : Result (Result Ended ListError) Cause
     pub writes : EditsOriginal old.system edits original (output_of old middle) edited
     pub only : OnlyWrites old middle
-    pub ends : EndsOutput original.name.now edited result middle new
+    pub ends : EndsOutput original.way.name.now edited result middle new
 
 module _ {S I O : Type 0} (calls : SystemOf S I O) (sources : SourceOf I) (sinks : SinkOf O) where
   -- | a file that is replaced: a new file was created and received what is written of the stream. The target was
@@ -324,27 +356,31 @@ module _ {S I O : Type 0} (calls : SystemOf S I O) (sources : SourceOf I) (sinks
     pub written : O
     pub edited : Result (Result Ended ListError) Cause
     pub writes : EditsOriginal calls sources old.system edits original
-        (device_of sinks.taken sinks.has_failed created written) edited
+        (sink_device sinks created written) edited
     pub whole : is_whole edited ≡ true
-        → IsWritten calls sources old.system edits original (device_of sinks.taken sinks.has_failed created written)
+        → IsWritten calls sources old.system edits original (sink_device sinks created written)
     pub middle : Run S
     pub ended : Result (Unit {0}) ℕ
-    pub ends : EndsFile original.name.now target edited ended old middle
+    pub ends : EndsFile original.way.name.now target edited ended old middle
     pub closes : Closes calls target written (is_whole edited) ended result middle new
 
   abbrev pub EditsTarget : (edits : List Edit) (original : Original) (target : List ℕ) → Result (Unit {0}) ℕ
       → (old new : Run S) → Type 0
-  EditsTarget edits original target = Then (Creates calls original.name.now target) (Replaces edits original target)
+  EditsTarget edits original target = Then (Creates calls original.way.name.now target) (Replaces edits original target)
 
-  -- | a stream that is written with edits to a file, or to the output
-  abbrev pub EditsTo : (edits : List Edit) (original : Original) → Option (List ℕ) → Result (Unit {0}) ℕ
+  -- by the file that is written
+  abbrev pub EditsAs : (edits : List Edit) (original : Original) → Option (List ℕ) → Result (Unit {0}) ℕ
       → (old new : Run S) → Type 0
-  EditsTo edits original (Some target) = EditsTarget edits original target
-  EditsTo edits original None = EditsOut calls sources edits original
+  EditsAs edits original (Some target) = EditsTarget edits original target
+  EditsAs edits original None = EditsOut calls sources edits original
+
+  -- | a stream that is written with edits to a file, or to the output [`EditsAs`]
+  abbrev pub EditsTo : (edits : List Edit) (original : Original) → Result (Unit {0}) ℕ → (old new : Run S) → Type 0
+  EditsTo edits original = EditsAs edits original (text_if_any original.way.target)
 
   -- | a file that is edited
   abbrev pub Changes : (edits : List Edit) → Route → Result (Unit {0}) ℕ → (old new : Run S) → Type 0
-  Changes edits route = Then (Finds calls sources route.name) (λ original. EditsTo edits original route.target)
+  Changes edits from = Then (Finds calls sources from) (EditsTo edits)
 
 module _ {S I O : Type 0} (calls : SystemOf S I O) (sinks : SinkOf O) where
   -- | a file that is replaced by these bytes, exactly if all of them were written
@@ -353,17 +389,17 @@ module _ {S I O : Type 0} (calls : SystemOf S I O) (sinks : SinkOf O) where
       : Type 0 where
     pub written : O
     pub is_complete : Bool
-    pub writes : WritesBytes bytes (device_of sinks.taken sinks.has_failed created written) is_complete
+    pub writes : WritesBytes bytes (sink_device sinks created written) is_complete
     pub middle : Run S
     pub ended : Result (Unit {0}) ℕ
     pub ends : EndsTarget target is_complete ended old middle
     pub closes : Closes calls target written is_complete ended result middle new
 
-  abbrev pub WritesBytesTarget : (bytes name target : List ℕ) → Result (Unit {0}) ℕ → (old new : Run S) → Type 0
-  WritesBytesTarget bytes name target = Then (Creates calls name target) (ReplacesBytes bytes target)
+  abbrev pub WritesFile : (bytes name target : List ℕ) → Result (Unit {0}) ℕ → (old new : Run S) → Type 0
+  WritesFile bytes name target = Then (Creates calls name target) (ReplacesBytes bytes target)
 
   abbrev pub WritesBy : (bytes name : List ℕ) → Option (List ℕ) → Result (Unit {0}) ℕ → (old new : Run S) → Type 0
-  WritesBy bytes name (Some target) = WritesBytesTarget bytes name target
+  WritesBy bytes name (Some target) = WritesFile bytes name target
   WritesBy bytes name None = WritesOut bytes
 
   -- | bytes that are written to a file, or to the output

@@ -1,15 +1,15 @@
 // The command `add`: appends custom sections, or replaces them.
 ghost use Rattle.std.specs.Prelude.{◌≡◌, ◌++◌, ◌∷◌, [], false, IfOk, map};
 ghost use Rattle.wasm_commands.specs.ArgumentLists.{operands_in};
-ghost use Rattle.wasm_commands.specs.Parsing.{reads_of, text_if_any, texts};
+ghost use Rattle.wasm_commands.specs.Parsing.{reads_of, texts};
 ghost use Rattle.wasm_commands.specs.Runs.{Allots};
-ghost use Rattle.wasm_commands.specs.RewriteCommands.{Adds, AddsBy, AddsFound, AddsHeld, AddsReplaced, AddsTo, AreAdditions, AreOperands, EachInTurn, IsAdded, IsAddedBy, IsAddition, LoadsAll, Prepares, ReplacesInFile, Searches, TakesAdditions, TakesParts, TakesWords, WritesAdded, is_asked_again, is_input, loaded_parts, no_addition, parts_of};
+ghost use Rattle.wasm_commands.specs.RewriteCommands.{Adds, AddsBy, AddsFound, AddsHeld, AddsTo, AreAdditions, AreOperands, EachInTurn, IsAdded, IsAddedBy, IsAddition, LoadsAll, Prepares, Searches, TakesAdditions, TakesParts, TakesWords, WritesAdded, is_asked_again, is_input, loaded_parts, no_addition, parts_of};
 
 use crate::arguments::Arguments;
 use crate::extract::{Wanted, find};
 use crate::messages::Complaint;
 use crate::options::{Flag, Verb};
-use crate::rewriting::{Original, target_of};
+use crate::rewriting::{Original, way_from};
 use crate::runner::Runner;
 use crate::system::System;
 use std::alloc::{AllocError, Global};
@@ -295,13 +295,12 @@ impl<S: System, W: Write, E: Sink> Runner<S, W, E> {
         alloc: Global,
         edits: &[Edit<'_>],
         original: &Original<'_>,
-        target: Option<&str>,
     ) -> Result<(), u8>
-        ensures { WritesAdded S.System S.Input.Source S.Output.Sink (text_if_any target.entry) edits.now
-            original.now result self.old self.new }
+        ensures { WritesAdded S.System S.Input.Source S.Output.Sink edits.now original.now
+            result self.old self.new }
     {
         if all_fit(edits) {
-            return self.edit_to(alloc, edits, original, target);
+            return self.edit_to(alloc, edits, original);
         }
         Err(self.complain(Complaint::TooLarge(Verb::Add, large_name(edits))))
     }
@@ -312,66 +311,13 @@ impl<S: System, W: Write, E: Sink> Runner<S, W, E> {
         alloc: Global,
         arguments: &Arguments<'a>,
     ) -> Result<(Vec<Loaded<'a>>, Original<'a>), u8>
-        ensures { Prepares S.System S.Input.Source (operands_in (reads_of arguments.now))
+        ensures { Prepares S.System S.Input.Source (reads_of arguments.now)
             result self.old self.new }
     {
         let (additions, file) = self.additions_of(alloc, arguments)?;
         let loaded = self.load_all(alloc, &additions)?;
-        let original = self.find(alloc, file)?;
+        let original = self.find(alloc, way_from(file, arguments))?;
         Ok((loaded, original))
-    }
-
-    // Writes a stream with these sections after the others.
-    fn add_at_end<'a>(
-        &mut self,
-        alloc: Global,
-        loaded: &'a [Loaded<'a>],
-        original: &Original<'_>,
-        target: Option<&str>,
-    ) -> Result<(), u8>
-        ensures { AddsBy S.System S.Input.Source S.Output.Sink (text_if_any target.entry)
-            (IsAddedBy false) (map loaded_parts loaded.now) original.now result self.old self.new }
-    {
-        let edits = self.allocated(edits_at_end(alloc, loaded))?;
-        self.write_added(alloc, &edits, original, target)
-    }
-
-    // Writes a stream in memory with these sections, in place of those with their names.
-    fn add_to_held<'a>(
-        &mut self,
-        alloc: Global,
-        loaded: &'a [Loaded<'a>],
-        bytes: &[u8],
-        original: &Original<'_>,
-        target: Option<&str>,
-    ) -> Result<(), u8>
-        ensures { AddsHeld S.System S.Input.Source S.Output.Sink (text_if_any target.entry)
-            bytes.now (map loaded_parts loaded.now) original.now result self.old self.new }
-    {
-        let found = self.allocated(edits_to(alloc, loaded, bytes))?;
-        let edits = self.sound(original.name, found)?;
-        self.write_added(alloc, &edits, original, target)
-    }
-
-    // Writes a file with these sections, in place of those of which the flag is set.
-    fn add_found<'a>(
-        &mut self,
-        alloc: Global,
-        loaded: &'a [Loaded<'a>],
-        found: &[Cell<bool>],
-        name: &str,
-        target: Option<&str>,
-    ) -> Result<(), u8>
-        ensures { AddsFound S.System S.Input.Source S.Output.Sink (text_if_any target.entry)
-            (map loaded_parts loaded.now) name.now result self.old self.new }
-    {
-        let original = Original {
-            name,
-            held: None,
-            is_checked: true,
-        };
-        let edits = self.allocated(edits_by(alloc, loaded, found))?;
-        self.write_added(alloc, &edits, &original, target)
     }
 
     // Returns the choices of the sections with these names, and a flag for each.
@@ -403,35 +349,52 @@ impl<S: System, W: Write, E: Sink> Runner<S, W, E> {
         Ok(found)
     }
 
-    // Searches a file for these sections, and writes it with them. Those that it has are replaced.
-    fn replace_in_file<'a>(
+    // Returns the edits that add these sections to a stream in memory, in place of those with their names.
+    fn edits_in<'a>(
+        &mut self,
+        alloc: Global,
+        loaded: &'a [Loaded<'a>],
+        bytes: &[u8],
+        name: &str,
+    ) -> Result<Vec<Edit<'a>>, u8>
+        ensures { AddsHeld (map loaded_parts loaded.now) name.now bytes.now
+            result self.old self.new }
+    {
+        let found = self.allocated(edits_to(alloc, loaded, bytes))?;
+        self.sound(name, found)
+    }
+
+    // Searches a file for these sections. Returns the edits that add them, in place of those that it has.
+    fn edits_in_file<'a>(
         &mut self,
         alloc: Global,
         loaded: &'a [Loaded<'a>],
         name: &str,
-        target: Option<&str>,
-    ) -> Result<(), u8>
-        ensures { ReplacesInFile S.System S.Input.Source S.Output.Sink (text_if_any target.entry)
-            (map loaded_parts loaded.now) name.now result self.old self.new }
+    ) -> Result<Vec<Edit<'a>>, u8>
+        ensures { AddsFound S.System (map loaded_parts loaded.now) name.now
+            result self.old self.new }
     {
         let found = self.search(alloc, loaded, name)?;
-        self.add_found(alloc, loaded, &found, name, target)
+        self.allocated(edits_by(alloc, loaded, &found))
     }
 
-    // Writes a stream with these sections, in place of those with their names.
-    fn replace_in<'a>(
+    // Returns the edits that add these sections: after the others, or in place of those with their names.
+    fn edits_for<'a>(
         &mut self,
         alloc: Global,
         loaded: &'a [Loaded<'a>],
         original: &Original<'_>,
-        target: Option<&str>,
-    ) -> Result<(), u8>
-        ensures { AddsReplaced S.System S.Input.Source S.Output.Sink (text_if_any target.entry)
-            (map loaded_parts loaded.now) original.now original.now.held result self.old self.new }
+        replaces: bool,
+    ) -> Result<Vec<Edit<'a>>, u8>
+        ensures { AddsBy S.System (map loaded_parts loaded.now) original.now replaces
+            result self.old self.new }
     {
+        if !replaces {
+            return self.allocated(edits_at_end(alloc, loaded));
+        }
         match &original.held {
-            Some(bytes) => self.add_to_held(alloc, loaded, bytes, original, target),
-            None => self.replace_in_file(alloc, loaded, original.name, target),
+            Some(bytes) => self.edits_in(alloc, loaded, bytes, original.way.name),
+            None => self.edits_in_file(alloc, loaded, original.way.name),
         }
     }
 }
@@ -447,20 +410,21 @@ pub(crate) fn add<S: System, W: Write, E: Sink>(
     //   output or to the file of `--output`, which is replaced only if all was written; or it says
     //   why not. No other file is created or replaced. With `--replace`, of a stream in memory exactly
     //   the sections that are found by their names are replaced [`add` (`Adds`: `Prepares`,
-    //   `AddsLoaded`, `AddsBy`)]
+    //   `AddsBy`, `AddsHeld`)]
     ensures { Adds S.System S.Input.Source S.Output.Sink (reads_of arguments.now)
         result.0 runner result.1 }
 {
-    let (loaded, original) = match runner.prepare(alloc, arguments) {
+    let (loaded, mut original) = match runner.prepare(alloc, arguments) {
         Ok(prepared) => prepared,
         Err(status) => return (Err(status), runner),
     };
-    let target = target_of(arguments);
-    if arguments.has(Flag::Replace) {
-        let ended = runner.replace_in(alloc, &loaded, &original, target);
-        (ended, runner)
-    } else {
-        let ended = runner.add_at_end(alloc, &loaded, &original, target);
-        (ended, runner)
-    }
+    let replaces = arguments.has(Flag::Replace);
+    let edits = match runner.edits_for(alloc, &loaded, &original, replaces) {
+        Ok(edits) => edits,
+        Err(status) => return (Err(status), runner),
+    };
+    // A file that was searched is read only once more.
+    original.is_checked = replaces;
+    let ended = runner.write_added(alloc, &edits, &original);
+    (ended, runner)
 }

@@ -1,8 +1,7 @@
 // The program: its first word is a command, which reads the other words.
-ghost use Rattle.std.specs.Prelude.{◌≡◌, map, string_bytes};
+ghost use Rattle.std.specs.Prelude.{◌≡◌};
 ghost use Rattle.std.specs.Process.{exit_status};
-ghost use Rattle.std.specs.Vec.Iter.{into_iter_items};
-ghost use Rattle.wasm_commands.specs.Commands.{Answers, PrintsHelp, RunsCommand, RunsGiven, RunsNamed, RunsOther, RunsParsed, RunsProgram, RunsWords};
+ghost use Rattle.wasm_commands.specs.Commands.{Exits, PrintsHelp, RunsCommand, RunsGiven, RunsNamed, RunsOther, RunsParsed, RunsProgram, RunsWords};
 ghost use Rattle.wasm_commands.specs.Messages.{complaint_text};
 ghost use Rattle.wasm_commands.specs.Parsing.{reads_of, strings};
 ghost use Rattle.wasm_commands.specs.Refusals.{unknown_text};
@@ -205,7 +204,7 @@ pub fn run<S: System, W: Write, E: Sink>(
     //   asked for, as lines each under its name if there are several. The status is the greatest: 0 for a file that was read to its
     //   end, 1 at its fault or with a message for each word that chose nothing, and 3 with the system's reason if something
     //   failed [the clause of `run` (`RunsWords`, `InTurn`, `ShowsFile`)]
-    ensures { Answers (RunsWords S.System S.Input.Source S.Output.Sink (strings words.now))
+    ensures { Exits (RunsWords S.System S.Input.Source S.Output.Sink (strings words.now))
         result.0 runner result.1 }
 {
     let (ended, runner) = run_words(alloc, words, runner);
@@ -243,8 +242,7 @@ pub fn run_program<S: System, W: Write, E: Sink>(
     // Proved: `run_program` is the whole program over any system and devices: it runs the words after the program's
     //   name, refuses arguments that are not valid UTF-8, or says that memory ran out; `main` only passes it the
     //   arguments, the files and the standard streams [its clause (`RunsProgram`)]
-    ensures { RunsProgram S.System S.Input.Source S.Output.Sink
-        (λ args. map string_bytes (into_iter_items args)) arguments (exit_status result.0)
+    ensures { RunsProgram S.System S.Input.Source S.Output.Sink arguments (exit_status result.0)
         runner result.1 }
 {
     let given = words_given(alloc, arguments);

@@ -4,7 +4,7 @@ ghost use Rattle.wasm_commands.specs.ArgumentLists.{last_value, operands_in};
 ghost use Rattle.wasm_commands.specs.Finding.{FindsSection, IsNamedIn};
 ghost use Rattle.wasm_commands.specs.Parsing.{reads_of, text_if_any, texts};
 ghost use Rattle.wasm_commands.specs.Rewrites.{route};
-ghost use Rattle.wasm_commands.specs.RewriteCommands.{Extracts, ExtractsFrom, Skips, TakesIndex, TakesNamed, TakesSection, value_text};
+ghost use Rattle.wasm_commands.specs.RewriteCommands.{Extracts, ExtractsIn, Skips, TakesIndex, TakesNamed, TakesSection, value_text};
 ghost use Rattle.wasm_commands.specs.declared.options.Flag.TheVariants as option;
 
 use crate::arguments::Arguments;
@@ -134,7 +134,7 @@ impl<S: System, W: Write, E: Sink> Runner<S, W, E> {
         wanted: Wanted<'_>,
         way: Way<'_>,
     ) -> Result<(), u8>
-        ensures { ExtractsFrom S.System S.Output.Sink (route way.entry) wanted.entry bytes.now
+        ensures { ExtractsIn S.System S.Output.Sink (route way.entry) wanted.entry bytes.now
             result self.old self.new }
     {
         match find(bytes, wanted) {

@@ -158,18 +158,23 @@ With several files the exit status is the greatest of theirs.
 
 // The text of `strip --help`.
 const STRIP: &[u8] = b"usage: pulleynavy strip [--keep-names] [--keep NAME]... [--only NAME]...
-                        [-o OUT] [FILE]
+                        [--debug] [-o OUT] [FILE]
 
 Writes FILE without its custom sections, such as names and debugging
 information. All other bytes stay as they are. If FILE is malformed, nothing is
-written.
+written. Nothing is written to a terminal either: name OUT, or redirect the
+output.
+
+A NAME that ends with '*' stands for all names that begin with what is before
+the '*'. Elsewhere in a NAME a '*' stands for itself. Quote it, so that the
+shell does not replace it.
 
 A regular file is read twice instead of being kept in memory: first to check
 it, then to write it. Standard input is read into memory.
 
-Do not use --keep or --only on object files: their relocations name sections by
-number, and removing a section changes the numbers of those after it. Without
-either option all relocations are removed.
+Do not use --keep, --only or --debug on object files: their relocations name
+sections by number, and removing a section changes the numbers of those after
+it. Without these options all relocations are removed.
 
 Options:
   --keep-names   Keeps the custom sections called 'name'.
@@ -178,6 +183,8 @@ Options:
   --only NAME    Removes only the custom sections with this name, and those
                  that other such options name. A section that another option
                  keeps is not removed.
+  --debug        Removes only the debug sections, as --only '.debug_*' does,
+                 and those that --only names.
   -o, --output OUT
                  Writes to OUT instead of standard output. OUT is replaced once
                  all of it is written, and may be FILE itself. It keeps its

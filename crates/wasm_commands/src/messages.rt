@@ -243,6 +243,8 @@ pub(crate) enum Complaint<'a> {
     NamesOf(&'a str),
     /// Several operands of `add` are standard input.
     InputTwice,
+    /// The output, to which `strip` is to write a module, is a terminal.
+    Terminal,
     /// An argument is not valid UTF-8.
     NotUtf8,
 }
@@ -413,6 +415,12 @@ pub(crate) fn complain<E: Sink>(complaint: Complaint<'_>, errors: &mut E) -> u8
         Complaint::InputTwice => {
             complain_of(Verb::Add, b"'", "-", b"' can be read only once", errors);
         }
+        Complaint::Terminal => say(
+            errors,
+            &[
+                b"pulleynavy strip: the output is a terminal: name a file with -o OUT, or redirect the output\n".as_slice(),
+            ],
+        ),
         Complaint::NotUtf8 => say(
             errors,
             &[b"pulleynavy: an argument is not valid UTF-8\n".as_slice()],

@@ -48,6 +48,8 @@ pub(crate) enum Flag {
     Keep,
     /// `--only`
     Only,
+    /// `--debug`
+    Debug,
     /// `--output`, `-o`
     Output,
     /// `--no-progress`
@@ -106,6 +108,7 @@ pub(crate) fn flag_of(word: &str) -> Option<Flag>
         "--keep-names" => Some(Flag::KeepNames),
         "--keep" => Some(Flag::Keep),
         "--only" => Some(Flag::Only),
+        "--debug" => Some(Flag::Debug),
         "--output" | "-o" => Some(Flag::Output),
         "--no-progress" => Some(Flag::NoProgress),
         "--index" => Some(Flag::Index),
@@ -127,7 +130,7 @@ impl Flag {
                 matches!(verb, Verb::Dump)
             }
             Flag::Quiet => matches!(verb, Verb::Check),
-            Flag::KeepNames | Flag::Keep | Flag::Only => matches!(verb, Verb::Strip),
+            Flag::KeepNames | Flag::Keep | Flag::Only | Flag::Debug => matches!(verb, Verb::Strip),
             Flag::Output => {
                 matches!(
                     verb,

@@ -1,7 +1,7 @@
 // The command `producers`: shows or changes what a module was produced with.
 ghost use Rattle.std.specs.Prelude.{◌≡◌, ◌<◌, ◌^◌, ◌++◌, IfOk, OnOk, is_some};
-ghost use Rattle.wasm_commands.specs.ArgumentLists.{has_option, values_in};
-ghost use Rattle.wasm_commands.specs.Commands.{Produces, ProducersBy, ShowsProducers};
+ghost use Rattle.wasm_commands.specs.ArgumentLists.{values_in};
+ghost use Rattle.wasm_commands.specs.Commands.{Produces, SetsOrShows, ShowsProducers};
 ghost use Rattle.wasm_commands.specs.Parsing.{reads_of, texts};
 ghost use Rattle.wasm_commands.specs.Rewrites.{route};
 ghost use Rattle.wasm_commands.specs.RewriteCommands.{AreSettings, FindsChange, SetsHeld, SetsIn, SetsProducers, SetsSection, TakesSettings, WritesSet, is_setting, no_setting, wrong_setting};
@@ -364,8 +364,7 @@ fn show_section<S: System, W: Write, E: Sink>(
     arguments: &Arguments<'_>,
     mut runner: Runner<S, W, E>,
 ) -> (Result<(), u8>, Runner<S, W, E>)
-    ensures { ShowsProducers S.System S.Input.Source
-        (has_option option.Output (reads_of arguments.now)) (reads_of arguments.now)
+    ensures { ShowsProducers S.System S.Input.Source (reads_of arguments.now)
         result.0 runner result.1 }
 {
     if arguments.has(Flag::Output) {
@@ -383,8 +382,8 @@ fn set_or_show<S: System, W: Write, E: Sink>(
     mut runner: Runner<S, W, E>,
 ) -> (Result<(), u8>, Runner<S, W, E>)
     requires { texts words.now ≡ values_in option.Set (reads_of arguments.now) }
-    ensures { ProducersBy S.System S.Input.Source S.Output.Sink (texts words.now)
-        (reads_of arguments.now) result.0 runner result.1 }
+    ensures { SetsOrShows S.System S.Input.Source S.Output.Sink (reads_of arguments.now)
+        result.0 runner result.1 }
 {
     match words {
         [] => show_section(alloc, arguments, runner),

@@ -2,10 +2,10 @@
 ghost use Rattle.std.specs.Prelude.{◌≡◌, All, is_ok};
 ghost use Rattle.std.specs.Io.KnownBytes.{Keeps};
 ghost use Rattle.wasm_commands.specs.Parsing.{reads_of, text_if_any};
-ghost use Rattle.wasm_commands.specs.Rewrites.{Changes, Closes, EditsHeld, EditsOriginal, EditsOut, EditsTarget, EditsTo, EndsFile, EndsRun, EndsTarget, Finds, FlushesAtEnd, WritesBytesTarget, WritesTo, route, route_from, target_in};
+ghost use Rattle.wasm_commands.specs.Rewrites.{Changes, Closes, EditsHeld, EditsOriginal, EditsOut, EditsTarget, EditsTo, EndsFile, EndsRun, EndsTarget, Finds, FlushesAtEnd, WritesFile, WritesTo, route, route_from, sink_device, target_in};
 ghost use Rattle.wasm_console.specs.Messages.{joined};
 ghost use Rattle.wasm_edits.specs.Edits.{CanBeMade};
-ghost use Rattle.wasm_io.specs.Calls.{device_of, writer_device};
+ghost use Rattle.wasm_io.specs.Calls.{writer_device};
 
 mod twice;
 
@@ -16,7 +16,7 @@ use crate::runner::{Runner, writes_all};
 use crate::system::System;
 use std::alloc::Global;
 use std::io::Write;
-use twice::edit_twice;
+use twice::{Reopened, edit_twice};
 use wasm_base::Fault;
 use wasm_console::PIECE;
 use wasm_edits::{Edit, edit, edit_stream};
@@ -26,7 +26,7 @@ use wasm_streams::Ended;
 /// A stream to change: a regular file, which is opened for each reading, or what was read of another one.
 #[derive(Drop)]
 pub(crate) struct Original<'a> {
-    pub(crate) name: &'a str,
+    pub(crate) way: Way<'a>,
     pub(crate) held: Option<Vec<u8>>,
     /// Whether a reading has shown that it has no fault.
     pub(crate) is_checked: bool,
@@ -41,7 +41,7 @@ fn edit_held<W: Sink>(
 ) -> Result<Ended, ListError>
     requires { All CanBeMade edits.now }
     ensures { EditsHeld edits.now bytes.now
-        (device_of W.taken W.has_failed output.old output.new) result }
+        (sink_device W.Sink output.old output.new) result }
 {
     match edit(alloc, bytes, edits) {
         Ok(edited) => match write_all(output, &edited) {
@@ -65,17 +65,18 @@ fn edit_original<S: System, W: Sink>(
 ) -> Result<Result<Ended, ListError>, Cause>
     requires { All CanBeMade edits.now }
     ensures { EditsOriginal S.System S.Input.Source system.now edits.now original.now
-        (device_of W.taken W.has_failed output.old output.new) result }
+        (sink_device W.Sink output.old output.new) result }
 {
     if let Some(bytes) = &original.held {
         return Ok(edit_held(alloc, edits, bytes, output));
     }
-    let mut second = system.open(original.name)?;
+    let mut second = system.open(original.way.name)?;
     if original.is_checked {
         return Ok(edit_stream(alloc, edits, &mut second, output, PIECE));
     }
-    let mut first = system.open(original.name)?;
-    Ok(edit_twice(alloc, edits, &mut first, &mut second, output))
+    let first = system.open(original.way.name)?;
+    let mut files = Reopened { first, second };
+    Ok(edit_twice(alloc, edits, &mut files, output))
 }
 
 // Flushes the output if all was written.
@@ -125,16 +126,16 @@ pub(crate) fn target_of<'a>(arguments: &Arguments<'a>) -> Option<&'a str>
 
 impl<S: System, W: Write, E: Sink> Runner<S, W, E> {
     /// Returns the stream to change. One that can be read only once is read.
-    pub(crate) fn find<'a>(&mut self, alloc: Global, name: &'a str) -> Result<Original<'a>, u8>
-        ensures { Finds S.System S.Input.Source name.now result self.old self.new }
+    pub(crate) fn find<'a>(&mut self, alloc: Global, way: Way<'a>) -> Result<Original<'a>, u8>
+        ensures { Finds S.System S.Input.Source (route way.entry) result self.old self.new }
     {
-        let held = if self.is_regular(name) {
+        let held = if self.is_regular(way.name) {
             None
         } else {
-            Some(self.hold(alloc, name)?)
+            Some(self.hold(alloc, way.name)?)
         };
         Ok(Original {
-            name,
+            way,
             held,
             is_checked: false,
         })
@@ -165,9 +166,9 @@ impl<S: System, W: Write, E: Sink> Runner<S, W, E> {
         match edit_original(alloc, edits, original, &self.system, &mut self.output) {
             Ok(how) => {
                 let how = flushed(how, &mut self.output);
-                self.end(original.name, how)
+                self.end(original.way.name, how)
             }
-            Err(cause) => Err(self.refuse(original.name, cause)),
+            Err(cause) => Err(self.refuse(original.way.name, cause)),
         }
     }
 
@@ -181,7 +182,7 @@ impl<S: System, W: Write, E: Sink> Runner<S, W, E> {
     ) -> Result<Result<Ended, ListError>, Cause>
         requires { All CanBeMade edits.now }
         ensures { EditsOriginal S.System S.Input.Source self.now.system edits.now
-            original.now (device_of S.Output.taken S.Output.has_failed output.old output.new) result }
+            original.now (sink_device S.Output.Sink output.old output.new) result }
     {
         edit_original(alloc, edits, original, &self.system, output)
     }
@@ -214,9 +215,9 @@ impl<S: System, W: Write, E: Sink> Runner<S, W, E> {
         ensures { EditsTarget S.System S.Input.Source S.Output.Sink edits.now original.now
             target.now result self.old self.new }
     {
-        let mut written = self.create(alloc, original.name, target)?;
+        let mut written = self.create(alloc, original.way.name, target)?;
         let edited = self.edit_into(alloc, edits, original, &mut written);
-        let ended = self.end_file(original.name, target, edited);
+        let ended = self.end_file(original.way.name, target, edited);
         self.close(target, written, ended)
     }
 
@@ -226,13 +227,12 @@ impl<S: System, W: Write, E: Sink> Runner<S, W, E> {
         alloc: Global,
         edits: &[Edit<'_>],
         original: &Original<'_>,
-        target: Option<&str>,
     ) -> Result<(), u8>
         requires { All CanBeMade edits.now }
         ensures { EditsTo S.System S.Input.Source S.Output.Sink edits.now original.now
-            (text_if_any target.entry) result self.old self.new }
+            result self.old self.new }
     {
-        match target {
+        match original.way.target {
             Some(target) => self.edit_target(alloc, edits, original, target),
             None => self.edit_output(alloc, edits, original),
         }
@@ -249,8 +249,8 @@ impl<S: System, W: Write, E: Sink> Runner<S, W, E> {
         ensures { Changes S.System S.Input.Source S.Output.Sink edits.now (route way.entry)
             result self.old self.new }
     {
-        let original = self.find(alloc, way.name)?;
-        self.edit_to(alloc, edits, &original, way.target)
+        let original = self.find(alloc, way)?;
+        self.edit_to(alloc, edits, &original)
     }
 
     // Ends a run that wrote bytes to a file.
@@ -280,7 +280,7 @@ impl<S: System, W: Write, E: Sink> Runner<S, W, E> {
         name: &str,
         target: &str,
     ) -> Result<(), u8>
-        ensures { WritesBytesTarget S.System S.Output.Sink (joined parts.now)
+        ensures { WritesFile S.System S.Output.Sink (joined parts.now)
             name.now target.now result self.old self.new }
     {
         let mut written = self.create(alloc, name, target)?;

@@ -1,5 +1,5 @@
 // A run of a command: the system that it runs on, what it writes and what it says.
-ghost use Rattle.std.specs.Prelude.{◌≡◌, Err, IfOk, codes};
+ghost use Rattle.std.specs.Prelude.{◌≡◌, Err, IfOk, codes, true};
 ghost use Rattle.wasm_console.specs.Messages.{joined};
 ghost use Rattle.wasm_commands.specs.ArgumentLists.{operands_in, values_in};
 ghost use Rattle.wasm_commands.specs.Runs.{status_in};
@@ -7,8 +7,8 @@ ghost use Rattle.wasm_commands.specs.Messages.{complaint_text, fault_text, file_
 ghost use Rattle.wasm_commands.specs.Parsing.{AreTexts, reads_of, texts};
 ghost use Rattle.wasm_commands.specs.Reasons.{reason_of};
 ghost use Rattle.wasm_commands.specs.RewriteCommands.{TakesFile, TakesOnly};
-ghost use Rattle.wasm_commands.specs.Rewrites.{Creates, ForwardsBytes, Holds, Opens, Takes, WritesBytes, WritesOut};
-ghost use Rattle.wasm_io.specs.Calls.{device_of, writer_device};
+ghost use Rattle.wasm_commands.specs.Rewrites.{Creates, Holds, Opens, Takes, WritesBytes, WritesOut, sink_device};
+ghost use Rattle.wasm_io.specs.Calls.{writer_device};
 ghost use Rattle.wasm_commands.specs.Runs.{Allocates, Allots, Fails, FailsToWrite, IsSound, Makes, Tells, run_of};
 ghost use Rattle.wasm_edits.specs.Encoded.{Fits, encoded_section};
 ghost use Rattle.wasm_base.specs.FaultAt.{fault_at};
@@ -31,7 +31,7 @@ use wasm_io::{ListError, Sink, WriteSink};
 /// Writes bytes that are in several parts. Returns whether the device took all of them.
 pub(crate) fn writes_all<W: Sink>(output: &mut W, parts: &[&[u8]]) -> bool
     ensures { WritesBytes (joined parts.now)
-        (device_of W.taken W.has_failed output.old output.new) result }
+        (sink_device W.Sink output.old output.new) result }
 {
     match write_parts(output, parts) {
         Ok(()) => true,
@@ -41,8 +41,9 @@ pub(crate) fn writes_all<W: Sink>(output: &mut W, parts: &[&[u8]]) -> bool
 
 // Writes bytes to the output and flushes it. Returns whether that succeeded.
 fn forwards_all<W: Write>(output: &mut WriteSink<W>, parts: &[&[u8]]) -> bool
-    ensures { ForwardsBytes (joined parts.now) (writer_device W.contents output.old output.new)
-        output.new.forwarded result }
+    ensures writes { WritesBytes (joined parts.now)
+        (writer_device W.contents output.old output.new) result }
+    ensures all { result ≡ true → output.new.forwarded ≡ true }
 {
     if !writes_all(output, parts) {
         return false;

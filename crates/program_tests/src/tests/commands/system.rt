@@ -47,6 +47,7 @@ pub(super) struct Files<'a> {
     input: &'a [u8],
     named: &'a [Named<'a>],
     input_failure: Cell<Option<Cause>>,
+    is_terminal: bool,
     // What was done to files, and how often something was.
     trace: [Change; 4],
     count: usize,
@@ -64,14 +65,23 @@ impl<'a> Files<'a> {
             input,
             named,
             input_failure: Cell::new(None),
+            is_terminal: false,
             trace: [Change::Discarded; 4],
             count: 0,
         }
     }
 
+    /// The same files, where the output is a terminal.
+    pub(super) fn at_terminal(mut self) -> Files<'a> {
+        self.is_terminal = true;
+        self
+    }
+
     /// The same files, to which nothing was done yet.
     pub(super) fn again(&self) -> Files<'a> {
-        Files::new(self.input, self.named)
+        let mut files = Files::new(self.input, self.named);
+        files.is_terminal = self.is_terminal;
+        files
     }
 
     /// What was done to files, in order.
@@ -144,7 +154,7 @@ impl<'a> System for Files<'a> {
 
     ghost rereads = { λ files name result. Unit {0} };
 
-    ghost shows = { λ files result. result ≡ false };
+    ghost shows = { λ files result. result ≡ files.is_terminal };
 
     ghost creates = { λ files input name result later. Unit {0} };
 
@@ -172,7 +182,7 @@ impl<'a> System for Files<'a> {
     }
 
     fn is_terminal(&self) -> bool {
-        false
+        self.is_terminal
     }
 
     fn create(&mut self, alloc: Global, _input: &str, name: &str) -> Result<BoundedSink, Cause> {

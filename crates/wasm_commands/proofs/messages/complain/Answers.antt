@@ -43,3 +43,6 @@ returns-in-TooLarge-clause-says g c =
     rw c.in-TooLarge.is
     (rw (c.command_words-in-TooLarge.ensures, c.as_slice-in-TooLarge.ensures, c.as_bytes-in-TooLarge.ensures.value)
     at c.say-in-TooLarge.ensures)
+
+pub returns-in-Terminal-clause-says : goal.returns-in-Terminal-clause-says
+returns-in-Terminal-clause-says g c = rw c.in-Terminal.is (rw c.as_slice-in-Terminal.ensures at c.say-in-Terminal.ensures)

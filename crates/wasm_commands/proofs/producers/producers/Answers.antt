@@ -7,4 +7,4 @@ set_or_show-requires g c = rw c.deref.ensures.value (c.in-Ok.ensures.0)
 pub returns-in-Ok : goal.returns-in-Ok
 returns-in-Ok g c =
     let made = c.in-Ok.ensures in
-    inl (tt, c.values.new.self, made.1, rw (c.deref.ensures.value, made.0) at c.set_or_show.ensures)
+    inl (tt, c.values.new.self, made.1, c.set_or_show.ensures)

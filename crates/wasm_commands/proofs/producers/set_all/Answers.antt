@@ -1,5 +1,6 @@
-use Rattle.std.proofs.Common.{rules, inl, inr, refl}
+use Rattle.std.proofs.Common.{ap, rules, inl, inr, refl}
 use Rattle.std.proofs.lemmas.Result.{err_from_is_err_and}
+use Rattle.wasm_commands.specs.Rewrites.{Route}
 use Rattle.wasm_commands.proofs.producers.set_all.Goals as goal
 
 pub returns-in_err-settings : goal.returns-in_err-settings
@@ -24,19 +25,21 @@ returns-in_err-bytes g c = inl (
 )
 
 pub returns : goal.returns
-returns g c = inl (
-  c.in_ok-settings.settings,
-  c.settings_of.new.runner,
-  rw c.requires at c.in_ok-settings.ensures,
-  inl (
-    c.in_ok-name.name,
-    c.file_of.new.self,
-    c.in_ok-name.ensures,
+returns g c =
+    let name = ap (λ (r : Route). r.name) c.way_from.ensures in
     inl (
-      c.in_ok-bytes.bytes,
-      c.hold.new.self,
-      c.in_ok-bytes.ensures,
-      rw (c.deref-2.ensures.value, c.way_from.ensures) at c.change.ensures,
-    ),
-  ),
-)
+      c.in_ok-settings.settings,
+      c.settings_of.new.runner,
+      rw c.requires at c.in_ok-settings.ensures,
+      inl (
+        c.in_ok-name.name,
+        c.file_of.new.self,
+        c.in_ok-name.ensures,
+        inl (
+          c.in_ok-bytes.bytes,
+          c.hold.new.self,
+          c.in_ok-bytes.ensures,
+          rw (c.deref-2.ensures.value, c.way_from.ensures, name) at c.change.ensures,
+        ),
+      ),
+    )

@@ -16,6 +16,6 @@ returns g c = inl (
     middle = c.end_file-ended.new.self;
     ended = c.end_file-ended.result;
     ends = c.end_file-ended.ensures;
-    closes = rw (ok_if_whole c.args.original.now.name.now c.args.target.now _ _ _ _ c.end_file-ended.ensures) at c.close.ensures;
+    closes = rw (ok_if_whole c.args.original.now.way.name.now c.args.target.now _ _ _ _ c.end_file-ended.ensures) at c.close.ensures;
   },
 )

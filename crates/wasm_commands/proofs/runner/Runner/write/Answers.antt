@@ -6,7 +6,8 @@ pub returns-then-forwards_all : goal.returns-then-forwards_all
 returns-then-forwards_all g c = rw (← c.self.view_is) (record {
   is_complete = true;
   middle = run_of g.W.Write.contents g.E.Sink.taken g.E.Sink.has_failed c.self.inside.system c.forwards_all.new.output c.self.inside.errors;
-  forwards = rw c.if-forwards_all.true at c.forwards_all.ensures;
+  writes = rw c.if-forwards_all.true at c.forwards_all.ensures.writes;
+  all = rw c.if-forwards_all.true at c.forwards_all.ensures.all;
   only = record { system = refl; said = refl };
   ends = (refl, refl);
 })
@@ -15,7 +16,8 @@ pub returns : goal.returns
 returns g c = rw (← c.self.view_is) (record {
   is_complete = false;
   middle = run_of g.W.Write.contents g.E.Sink.taken g.E.Sink.has_failed c.self.inside.system c.forwards_all.new.output c.self.inside.errors;
-  forwards = rw c.if-forwards_all.false at c.forwards_all.ensures;
+  writes = rw c.if-forwards_all.false at c.forwards_all.ensures.writes;
+  all = rw c.if-forwards_all.false at c.forwards_all.ensures.all;
   only = record { system = refl; said = refl };
   ends = c.fail.ensures;
 })
