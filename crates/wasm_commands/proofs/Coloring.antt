@@ -1,5 +1,5 @@
 -- Texts without their colors.
-use Rattle.std.proofs.Common.{◌≡◌, ◌≢◌, ◌∙◌, ℕ, zero, suc, ◌+◌, ◌≤◌, ◌<◌, false, List, [], ◌∷◌, ◌++◌, Option, Some, None, Result, Ok, Err}
+use Rattle.std.proofs.Common.{◌≡◌, ◌≢◌, ◌∙◌, ℕ, suc, ◌+◌, ◌≤◌, ◌<◌, false, List, [], ◌∷◌, ◌++◌, Option, Some, None, Result, Ok, Err}
 use Rattle.std.proofs.Common.{IfOk, OnErr, ap, sym, subst, refl, nat_eq, eqb-true, length, take, drop, get_or}
 use Rattle.std.proofs.Common.{append_assoc, append-nil, take-append-drop, length-append, take_all, le_refl, arith}
 use Rattle.std.proofs.lemmas.Bool.{false_from_ne_true}
@@ -84,14 +84,6 @@ gains_byte byte old set new n silent ends e = record {
   ends = where_append Outside set (byte ∷ []) ∙ rw ends ((alone byte n).1);
 }
 
-pub gathers_first : (first : ℕ) (later bytes : List ℕ) → first ≢ 27 → bytes ≡ first ∷ [] → Gathers first 0 later bytes
-gathers_first first later bytes n e = record {
-  more = [];
-  begins = e;
-  gives = ap without_colors e ∙ (alone first n).0;
-  ends = ap (where_after Outside) e ∙ (alone first n).1;
-}
-
 pub gathers_next : (first i byte : ℕ) (later old new : List ℕ) → Gathers first i later old → GainsByte byte old new → i < length later
     → byte ≡ get_or later i byte → Gathers first (i + 1) later new
 gathers_next first i byte later old new g b less is =
@@ -103,9 +95,6 @@ gathers_next first i byte later old new g b less is =
           ∙ rw (g.gives, g.ends, b.gives) (ap (λ l. first ∷ l) (sym next));
       ends = ap (where_after Outside) b.adds ∙ where_append Outside old b.added ∙ rw (g.ends) b.ends;
     }
-
-pub gathers_colored : (first i : ℕ) (later bytes : List ℕ) → Gathers first i later bytes → IsColored first later bytes
-gathers_colored first i later bytes g = record { more = g.more; begins = g.begins; count = i; gives = g.gives }
 
 -- ---- writing
 
@@ -145,16 +134,6 @@ pub colored_bound : (first j : ℕ) (later bytes : List ℕ) → IsColored first
 colored_bound first j later bytes c =
     let some : length (without_colors (take j bytes)) ≤ suc (length later) = (colored_head first j later bytes c).1 in
     omega arith
-
-gives_some : (first j : ℕ) (more : List ℕ) → first ≢ 27 → 0 < j → 0 < length (without_colors (take j (first ∷ more)))
-gives_some first zero more n p = absurd (omega arith)
-gives_some first (suc j) more n p = rw (no_escape first n) (omega arith)
-
-pub colored_some : (first j : ℕ) (later bytes : List ℕ) → first ≢ 27 → IsColored first later bytes → (0 < length bytes → 0 < j)
-    → 0 < length (without_colors (take j bytes))
-colored_some first j later bytes n c p =
-    let long : 0 < length bytes = rw c.begins (omega arith) in
-    rw c.begins (gives_some first j c.more n (p long))
 
 pub colored_written : (first j : ℕ) (later set bytes : List ℕ) (a b : Option (List ℕ)) → IsSequence set → IsColored first later bytes
     → Appends a b (set ++ take j bytes)

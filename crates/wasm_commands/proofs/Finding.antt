@@ -1,5 +1,5 @@
 -- How far a search for a custom section has come.
-use Rattle.std.proofs.Common.{◌≡◌, ℕ, ◌+◌, ◌^◌, ◌<◌, Bool, true, false, List, [], ◌∷◌, ◌++◌, length, Some, None}
+use Rattle.std.proofs.Common.{◌≡◌, ℕ, ◌+◌, ◌^◌, ◌<◌, Bool, true, false, List, [], ◌∷◌, ◌++◌, length, Some}
 use Rattle.std.proofs.Common.{Ok, Err, refl, ap, ◌∙◌, arith}
 use Rattle.wasm_base.specs.Features.{all_features}
 use Rattle.wasm_base.specs.declared.error.Error.{Error}
@@ -10,8 +10,8 @@ use Rattle.wasm_parser.specs.ParseAll.{Walk, NextPayload, walk_over}
 use Rattle.wasm_parser.specs.ParseAnswer.{report_of}
 use Rattle.wasm_parser.specs.declared.payload.Payload.{Payload}
 use Rattle.wasm_parser.specs.declared.payload.Payload.TheVariants.{CustomSection}
-use Rattle.wasm_commands.specs.Finding.{ComesAfter, EndsBefore, HasFewer, has_name, named_count}
-use Rattle.wasm_parser.proofs.ForCallers.{PayloadCame, WalkedTo, payload_came, walk_begins, walk_begun, walk_ends, walk_faults}
+use Rattle.wasm_commands.specs.Finding.{ComesAfter, EndsBefore, has_name, named_count}
+use Rattle.wasm_parser.proofs.ForCallers.{PayloadCame, WalkedTo, payload_came, walk_begins, walk_begun, walk_faults}
 
 head_counted : (name : List ℕ) (x : Event) (xs ys : List Event) (n : ℕ) → named_count name ys ≡ named_count name xs + n
     → (b : Bool) → has_name name x.report ≡ b → named_count name (x ∷ ys) ≡ named_count name (x ∷ xs) + n
@@ -82,14 +82,5 @@ module _ (name : List ℕ) (skips : ℕ) (stream : List ℕ) (it next : Walk) (b
       record {
         events = w.events;
         reading = walk_faults stream it next w.events w.walked small e n;
-        few = omega (arith, counted);
-      }
-
-  pub nothing_came : NextPayload it None next → HasFewer name skips stream
-  nothing_came n =
-      let counted = w.counted in
-      record {
-        events = w.events;
-        reading = walk_ends stream it next w.events w.walked small n;
         few = omega (arith, counted);
       }

@@ -209,15 +209,15 @@ module _ {S I O : Type 0} (calls : SystemOf S I O) (sources : SourceOf I) where
       CannotLoad additions status old new ⊎ RunsOut {A = Unit {0}} (Err status) old new
 
 module _ {S I O : Type 0} (calls : SystemOf S I O) where
-  -- The search of an opened file ended so.
+  -- A file was opened, and how the search of it ended was said, of which nothing is stated.
   pub record SearchesOpened (name : List ℕ) (result : Result (Unit {0}) ℕ) (old new : Run S) : Type 0 where
     pub opened : I
     pub opens : calls.opens old.system name (Ok opened)
     pub how : Result Ended ListError
     pub ends : EndsRun name how result old new
 
-  -- | a file that is searched for sections: it is read to its end, or the search stops. Nothing is written
-  -- The file was read to its end, or it has a fault, or reading it failed, or memory ran out.
+  -- | a file that is searched for sections: it is opened, and the search goes on or stops. What it reads and finds is
+  --   not stated; nothing is written
   abbrev pub Searches : {A : Type 0} → (name : List ℕ) → Result A ℕ → (old new : Run S) → Type 0
   Searches name (Ok found) old new = SearchesOpened name (Ok tt) old new
   Searches name (Err status) old new = RunsOut {A = Unit {0}} (Err status) old new
@@ -447,7 +447,7 @@ module _ {S : Type 0} (loaded : List (List ℕ × List ℕ)) where
   AddsHeld name stream = Then (Makes (AddsTo stream loaded)) (IsSound name)
 
 module _ {S I O : Type 0} (calls : SystemOf S I O) (loaded : List (List ℕ × List ℕ)) where
-  -- The file was searched to its end, and the sections are added.
+  -- The file was searched, and the sections are added.
   abbrev pub AddsFound : (name : List ℕ) → Result (Vec Edit Global) ℕ → (old new : Run S) → Type 0
   AddsFound name = Then (Searches calls name) (λ (found : Unit {0}). AddsEach loaded IsAdded)
 
