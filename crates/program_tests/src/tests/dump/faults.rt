@@ -7,7 +7,7 @@ use wasm_commands::check_as;
 use wasm_dumper::{Counts, walk, walk_payload};
 use wasm_io::{BoundedSink, ListError, SliceSource, WriteSink};
 use wasm_parser::{Error, Fault, Parser, Payload};
-use wasm_show::{Faults, Walker, Within};
+use wasm_show::{Faults, Offsets, Walker, Within};
 use wasm_streams::Ended;
 
 // What is asked for: the beginning of each line, and whether nothing is written.
@@ -109,6 +109,38 @@ const SECTIONS: [Row; 6] = [
 #[test]
 fn finds_faults_in_sections(rt: HostRuntime) -> Result<(), Fail> {
     all_checked(&rt, rt.alloc(), &SECTIONS)
+}
+
+// A walker may walk again: what it sees is added to what it has seen.
+#[test]
+fn walks_again(rt: HostRuntime) -> Result<(), Fail> {
+    let stream = b"\0asm\x01\0\0\0\x07\x05\x01\x01f\0\x05";
+    let mut offsets = Offsets::new(rt.alloc());
+    for piece in [1, 7] {
+        let mut input = SliceSource::new(stream);
+        let ended = walk(rt.alloc(), &mut input, &mut offsets, piece);
+        assert!(rt; ended == Ok(Ended::End));
+    }
+    let noted = offsets.into_noted().ok_or("out of memory")?;
+    assert_eq!(rt; noted.as_slice(), [11, 11].as_slice());
+    Ok(())
+}
+
+// A walker that has stopped ends each later walk, and writes nothing more.
+#[test]
+fn a_stopped_walker_stays_so(rt: HostRuntime) -> Result<(), Fail> {
+    let (stream, _) = SECTIONS[1];
+    let sink = BoundedSink::new(rt.alloc(), 3)?;
+    let mut faults = Faults::new(rt.alloc(), sink, String::new(rt.alloc()), false);
+    let ended = walk(rt.alloc(), &mut SliceSource::new(stream), &mut faults, 7);
+    assert!(rt; ended == Ok(Ended::End));
+    faults.write_out();
+    assert!(rt; faults.why_stopped() == Some(ListError::Output));
+    let ended = walk(rt.alloc(), &mut SliceSource::new(stream), &mut faults, 7);
+    assert!(rt; ended == Err(ListError::Output));
+    faults.write_out();
+    assert_eq!(rt; faults.into_output().written(), b"0xe".as_slice());
+    Ok(())
 }
 
 /// A section of names: two in each subsection that lists them, in the wrong order.
