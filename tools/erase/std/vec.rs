@@ -35,6 +35,15 @@ impl<T, A: Allocator> Vec<T, A> {
     }
 
     /// Returns the list of the items of an array.
+    pub fn from_slice(alloc: A, items: &[T]) -> Result<Self, AllocError>
+    where
+        T: Clone,
+    {
+        let mut list = Self::new(alloc);
+        list.extend_from_slice(items)?;
+        Ok(list)
+    }
+
     pub fn from_array<const N: usize>(alloc: A, items: [T; N]) -> Result<Self, AllocError> {
         let mut list = Vec::with_capacity(alloc, N)?;
         list.items.extend(items);
