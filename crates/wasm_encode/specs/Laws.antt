@@ -1,0 +1,26 @@
+-- What encodings are read as.
+use Rattle.std.specs.Prelude.{◌≡◌, ℕ, ◌<◌, ◌^◌, false, true, ℤ}
+use Rattle.wasm_base.specs.Item.{ReadsAs}
+use Rattle.wasm_base.specs.Number.{bits_of, unsigned_at}
+use Rattle.wasm_base.specs.Signed.{signed_at, FitsBits}
+use Rattle.wasm_base.specs.Widths.{is_signed}
+use Rattle.wasm_base.specs.declared.fault.NumberKind.{NumberKind}
+use Rattle.wasm_encode.specs.Consumed.{CopiesItsBytes}
+use Rattle.wasm_encode.specs.Numbers.{unsigned_bytes, signed_bytes}
+use Rattle.wasm_encode.specs.ReadsBack.{Encodes}
+
+-- | numbers that fit their kind are read as themselves; bytes of a number that was read are read as it
+--   wherever they are [`UnsignedNumbersReadBack`, `SignedNumbersReadBack`; `NumbersAreCopied`]
+-- An unsigned number that fits its kind is read as itself.
+abbrev pub UnsignedNumbersReadBack : Type 0
+UnsignedNumbersReadBack = (kind : NumberKind) (features n : ℕ) → is_signed kind ≡ false → n < 2 ^ bits_of kind
+    → Encodes (ReadsAs (λ (m : ℕ). m) (unsigned_at kind)) features (λ (offset : ℕ). n) (unsigned_bytes n)
+
+-- A signed number that fits its kind is read as itself.
+abbrev pub SignedNumbersReadBack : Type 0
+SignedNumbersReadBack = (kind : NumberKind) (features : ℕ) (n : ℤ) → is_signed kind ≡ true → FitsBits (bits_of kind) n
+    → Encodes (ReadsAs (λ (m : ℤ). m) (signed_at kind)) features (λ (offset : ℕ). n) (signed_bytes n)
+
+-- Copying the bytes of a number that was read writes it, also where they aren't the shortest.
+abbrev pub NumbersAreCopied : Type 0
+NumbersAreCopied = (kind : NumberKind) → CopiesItsBytes (unsigned_at kind)

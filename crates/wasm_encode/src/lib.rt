@@ -1,0 +1,46 @@
+//! Writes the items of WebAssembly modules in the binary format, proved against the readers.
+//!
+//! * `Encode` is a type whose values can be written: each of its items is read back as itself.
+//! * `section_len` and `write_section` write a section of counted items, `write_number_section` one that is a number.
+//!
+//! Nothing allocates. Each item has one spelling, with numbers as short as possible. First ask whether the items fit
+//! and how many bytes they have; then write them into bytes of your own.
+//!
+//! ```rattle
+//! let exports = [Export { name: "run", kind: ExternalKind::Func, index: 2 }];
+//! assert!(rt; section_fits(&exports));
+//! let mut bytes = vec![in alloc; 0u8; section_len(&exports)]?;
+//! write_section(&mut bytes, 0, 7, &exports);
+//! assert_eq!(rt; bytes.as_slice(), b"\x07\x07\x01\x03run\0\x02".as_slice());
+//! ```
+#![tactic(auto)]
+
+mod bytes;
+mod code;
+mod data;
+mod encode;
+mod exports;
+mod expressions;
+mod fitting;
+mod globals;
+mod imports;
+mod indices;
+pub mod laws;
+mod limits;
+mod names;
+mod number;
+mod operators;
+mod rec_groups;
+mod sections;
+mod tables;
+mod types;
+
+pub use code::code_sections_are_frames;
+pub use encode::Encode;
+pub use expressions::{expression_fits, expression_len, expression_reads_back, write_expression};
+pub use names::{name_fits, name_len, write_name};
+pub use number::{signed_len, unsigned_len, write_signed, write_unsigned};
+pub use sections::{
+    items_read_back, number_section_len, section_fits, section_len, section_reads_back,
+    write_number_section, write_section,
+};
