@@ -1,7 +1,7 @@
 -- The bytes of bodies are read as the bodies, and code sections are well-formed.
 use Rattle.std.proofs.Common.{◌≡◌, ℕ, ◌+◌, ◌<◌, ◌≤◌, ◌^◌, false, List, [], ◌∷◌}
-use Rattle.std.proofs.Common.{◌++◌, length, Ok, All, map, arith, ap, sym, ◌∙◌, refl, subst}
-use Rattle.std.proofs.Common.{append-nil, append_assoc, length-append}
+use Rattle.std.proofs.Common.{◌++◌, length, Ok, All, map, arith, ap, sym, refl, subst}
+use Rattle.std.proofs.Common.{append_assoc, length-append}
 use Rattle.std.proofs.lemmas.List.{length-map}
 use Rattle.std.proofs.lemmas.List.Elements.{All-head, All-tail, All-cons, All-nil}
 use Rattle.std.specs.Prelude.{flat_map}
@@ -11,6 +11,7 @@ use Rattle.wasm_base.specs.Number.{number, read}
 use Rattle.wasm_base.specs.declared.fault.NumberKind.TheVariants.{VarU32}
 use Rattle.wasm_encode.specs.Code.{BodyFits, body_bytes, body_content, body_placed}
 use Rattle.wasm_encode.specs.Frames.{frame_of}
+use Rattle.wasm_encode.specs.Modules.{MakesFrames}
 use Rattle.wasm_encode.specs.Numbers.{unsigned_bytes}
 use Rattle.wasm_encode.specs.ReadsBack.{spot, Encodes}
 use Rattle.wasm_encode.specs.Sections.{SectionFits, content_bytes, items_bytes}
@@ -97,3 +98,6 @@ code_frames bodies h =
         each = all_sized bodies h.each;
       };
     }
+
+pub code_makes_frames : MakesFrames body_bytes BodyFits code_id
+code_makes_frames xs fit = code_frames xs fit

@@ -1,8 +1,8 @@
 -- The bytes of a constant expression that was read are one wherever they are copied to.
-use Rattle.std.proofs.Common.{◌≡◌, ℕ, zero, suc, ◌+◌, ◌-◌, ◌*◌, ◌<◌, ◌≤◌, ◌^◌, ◌==◌, Bool, true, false, cond, List, [], ◌∷◌, ◌++◌}
+use Rattle.std.proofs.Common.{◌≡◌, ℕ, zero, suc, ◌+◌, ◌-◌, ◌*◌, ◌<◌, ◌≤◌, ◌^◌, Bool, true, false, cond, List, [], ◌∷◌, ◌++◌}
 use Rattle.std.proofs.Common.{length, take, drop}
 use Rattle.std.proofs.Common.{arith, ap, sym, ◌∙◌, Option, Some, None, Ok, Err, refl, subst, append-nil, append_assoc}
-use Rattle.std.proofs.Common.{length-append, length-drop, nat_lt, nat_eq, ℤ, pos, negsuc, ltb-false}
+use Rattle.std.proofs.Common.{length-append, nat_lt, nat_eq, ℤ, pos, negsuc, ltb-false}
 use Rattle.std.proofs.lemmas.Bool.{le-ltb}
 use Rattle.std.proofs.lemmas.List.{take-append-drop, length-take}
 use Rattle.std.proofs.Math.Seq.{take-append_seam, drop-append_seam}
@@ -10,7 +10,7 @@ use Rattle.wasm_base.proofs.NumberLaws.{number-more, number-used}
 use Rattle.wasm_base.proofs.OwnBytes.{same_read}
 use Rattle.wasm_base.specs.FaultAt.{FaultAt, at_offset}
 use Rattle.wasm_base.specs.Float.{u64_at}
-use Rattle.wasm_base.specs.Name.{bytes_at, byte_at, of_four, u32_at}
+use Rattle.wasm_base.specs.Name.{bytes_at, of_four, u32_at}
 use Rattle.wasm_base.specs.Number.{Number, read, bad, short, number, in_window, unsigned_at}
 use Rattle.wasm_base.specs.Outcome.{Outcome, ◌>>=◌}
 use Rattle.wasm_base.specs.Signed.{signed_value, signed_at}
@@ -18,7 +18,7 @@ use Rattle.wasm_base.specs.Window.{Place, advanced}
 use Rattle.wasm_base.specs.declared.fault.Fault.TheVariants.{UnexpectedEof, NotConstant}
 use Rattle.wasm_base.specs.declared.fault.NumberKind.{NumberKind}
 use Rattle.wasm_base.specs.declared.fault.NumberKind.TheVariants.{VarU32, VarS33}
-use Rattle.wasm_encode.specs.ReadsBack.{spot, Encodes}
+use Rattle.wasm_encode.specs.ReadsBack.{spot}
 use Rattle.wasm_encode.proofs.NumbersBack.{unsigned_read, signed_read}
 use Rattle.wasm_encode.proofs.Readings.{Reads, reads_then, reads_nothing, same_spot}
 use Rattle.wasm_items.proofs.Expressions.{end_or_instruction}
@@ -28,7 +28,6 @@ use Rattle.wasm_items.specs.Init.{instructions_at, end_of_expression}
 use Rattle.wasm_items.specs.Values.{abstract_heap_of, type_index, heap_type_from, heap_type_at}
 use Rattle.wasm_items.specs.declared.init.ConstOperator.{ConstOperator}
 use Rattle.wasm_items.specs.declared.types.HeapType.{HeapType}
-use Rattle.wasm_items.specs.declared.types.HeapType.TheVariants as Heaps
 
 -- What was read by a reading that knows a start: the bytes that it consumed are read as the same from every start.
 pub record From {A : Type 0} (reading : ℕ → Place → Outcome A) (features offset : ℕ) (bytes : List ℕ) (x : A) (q : Place) : Type 0 where

@@ -1,12 +1,10 @@
 -- Readings that consume an encoding of what they read.
-use Rattle.std.proofs.Common.{◌≡◌, ℕ, ◌+◌, ◌≤◌, Bool, true, false, cond, List, [], ◌∷◌, ◌++◌, length, take, drop, arith, ap, sym}
+use Rattle.std.proofs.Common.{◌≡◌, ℕ, ◌+◌, List, [], ◌++◌, length, take, drop, arith, ap, sym}
 use Rattle.std.proofs.Common.{◌∙◌, Ok, Err, refl, subst}
 use Rattle.std.proofs.Common.{append_assoc, length-append}
 use Rattle.std.proofs.lemmas.List.{take-append-drop, length-take}
 use Rattle.wasm_base.proofs.NumberLaws.{number-more, number-used}
 use Rattle.wasm_base.proofs.OwnBytes.{same_read}
-use Rattle.wasm_base.specs.FaultAt.{FaultAt}
-use Rattle.wasm_base.specs.Name.{byte_at}
 use Rattle.wasm_base.specs.Number.{Number, read, bad, short, number, in_window, unsigned_at}
 use Rattle.wasm_base.specs.Outcome.{Outcome, ◌>>=◌}
 use Rattle.wasm_base.specs.Window.{Place, advanced}

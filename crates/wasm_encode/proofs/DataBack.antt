@@ -1,13 +1,12 @@
 -- The bytes of data segments are read as the segments.
-use Rattle.std.proofs.Common.{◌≡◌, ℕ, ◌+◌, ◌<◌, ◌≤◌, ◌^◌, ◌==◌, Bool, true, false, List}
-use Rattle.std.proofs.Common.{[], ◌∷◌, ◌++◌, length, Ok, arith, ap, sym, ◌∙◌, refl, subst}
+use Rattle.std.proofs.Common.{◌≡◌, ℕ, ◌+◌, ◌≤◌, ◌==◌, Bool, true, false, List}
+use Rattle.std.proofs.Common.{[], ◌∷◌, ◌++◌, length, Ok, arith, ap, ◌∙◌, refl}
 use Rattle.std.proofs.Common.{append_assoc, length-append, eqb-true, if◌then◌else◌}
 use Rattle.wasm_base.specs.Item.{ReadsAs}
-use Rattle.wasm_base.specs.Number.{unsigned_at}
-use Rattle.wasm_base.specs.Outcome.{Outcome, ◌>>=◌}
+use Rattle.wasm_base.specs.Outcome.{Outcome}
 use Rattle.wasm_base.specs.declared.fault.NumberKind.TheVariants.{VarU32}
 use Rattle.wasm_encode.specs.Data.{ActiveFits, DataFits, DataKindFits, data_bytes}
-use Rattle.wasm_encode.specs.Data.{data_kind_bytes, data_kind_placed, data_placed, memory_bytes}
+use Rattle.wasm_encode.specs.Data.{data_kind_bytes, data_kind_placed, data_placed}
 use Rattle.wasm_encode.specs.Expressions.{expression_bytes, expression_placed}
 use Rattle.wasm_encode.specs.Numbers.{unsigned_bytes}
 use Rattle.wasm_encode.specs.ReadsBack.{spot, Encodes}
@@ -15,7 +14,7 @@ use Rattle.wasm_encode.proofs.CopiedExpressions.{bytes_back}
 use Rattle.wasm_encode.proofs.ExpressionsBack.{copied}
 use Rattle.wasm_encode.proofs.NumbersBack.{unsigned_at_spot}
 use Rattle.wasm_encode.proofs.SegmentsBack.{flags_back}
-use Rattle.wasm_items.specs.Data.{DataParts, data_at, data_kind_at, data_parts}
+use Rattle.wasm_items.specs.Data.{data_at, data_kind_at, data_parts}
 use Rattle.wasm_items.specs.declared.data.Data.{Data}
 use Rattle.wasm_items.specs.declared.data.DataKind.{DataKind}
 use Rattle.wasm_items.specs.declared.data.DataKind.TheVariants.{Passive, Active}

@@ -1,6 +1,6 @@
 -- Expressions that are copied are read as their windows, and those made of operators as these.
 use Rattle.std.proofs.Common.{◌≡◌, ℕ, zero, suc, ◌+◌, ◌<◌, ◌≤◌, ◌^◌, false, List, [], ◌∷◌, ◌++◌, length, Ok, All, map, arith, ap, sym, ◌∙◌}
-use Rattle.std.proofs.Common.{append-nil, append_assoc, length-append, subst, refl}
+use Rattle.std.proofs.Common.{append-nil, append_assoc, length-append, refl}
 use Rattle.std.proofs.lemmas.List.Elements.{All-head, All-tail}
 use Rattle.wasm_base.specs.Section.{as_read}
 use Rattle.wasm_base.specs.Window.{Window, place, window_over}

@@ -3,7 +3,9 @@ use Rattle.std.proofs.Common.{◌≡◌, ℕ, ◌<◌, ◌^◌, ◌⊎◌, inl, 
 use Rattle.wasm_base.specs.Number.{number, read}
 use Rattle.wasm_base.specs.declared.fault.NumberKind.TheVariants.{VarU32}
 use Rattle.wasm_encode.specs.Frames.{frame_of}
+use Rattle.wasm_encode.specs.Modules.{MakesFrames}
 use Rattle.wasm_encode.specs.Numbers.{unsigned_bytes}
+use Rattle.wasm_encode.specs.Sections.{items_bytes}
 use Rattle.wasm_encode.proofs.Numbers.{septets_few}
 use Rattle.wasm_encode.proofs.NumbersBack.{unsigned_back}
 use Rattle.wasm_grammar.specs.Accepted.{IsFrame, IsGood}
@@ -34,3 +36,9 @@ number_frames id n small kind fits = record {
     by : (kind_of Module id ≡ whole index) ⊎ (kind_of Module id ≡ whole data_count) → IsGood (kind_of Module id) (unsigned_bytes n)
     by (inl is) = subst (λ (k : Kind). IsGood k (unsigned_bytes n)) (sym is) (n, alone n fits)
     by (inr is) = subst (λ (k : Kind). IsGood k (unsigned_bytes n)) (sym is) (n, alone n fits)
+
+-- sections of counted items
+pub makes_frames : {T : Type 0} (encoded : T → List ℕ) (is_encodable : T → Type 0) (id : ℕ) → id < 128
+    → kind_of Module id ≡ whole items → MakesFrames encoded is_encodable id
+makes_frames encoded is_encodable id small kind xs fit =
+    frames id (length xs) (items_bytes encoded xs) small kind fit.few fit.short

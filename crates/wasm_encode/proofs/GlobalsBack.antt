@@ -1,12 +1,11 @@
 -- The bytes of globals are read as the globals.
-use Rattle.std.proofs.Common.{◌≡◌, ℕ, ◌+◌, ◌-◌, List, ◌++◌, length, take, Ok, Err, arith, ap, sym, ◌∙◌, refl, [], ◌∷◌, Bool, true}
+use Rattle.std.proofs.Common.{◌≡◌, ℕ, ◌+◌, ◌-◌, List, ◌++◌, length, Ok, Err, arith, ap, sym, ◌∙◌, refl, [], ◌∷◌, Bool}
 use Rattle.std.proofs.Common.{false, IsTrue, ◌↔◌, ◌==◌, eqb-true, append-nil, append_assoc, length-append}
 use Rattle.std.proofs.Math.Seq.{take-append_seam}
 use Rattle.wasm_base.proofs.OwnBytes.{same_read}
 use Rattle.wasm_base.specs.FaultAt.{FaultAt}
 use Rattle.wasm_base.specs.Item.{ReadsAs}
-use Rattle.wasm_base.specs.Outcome.{Outcome, ◌>>=◌}
-use Rattle.wasm_base.specs.Window.{Window, Place, place, window_over, window_between}
+use Rattle.wasm_base.specs.Window.{Window, Place, place, window_over}
 use Rattle.wasm_encode.specs.Globals.{init_bytes, global_bytes, GlobalFits, IsExpression, global_placed}
 use Rattle.wasm_encode.specs.Limits.{global_type_bytes}
 use Rattle.wasm_encode.specs.ReadsBack.{spot, Encodes}

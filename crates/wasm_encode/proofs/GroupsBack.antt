@@ -1,13 +1,13 @@
 -- The bytes of groups of types are read as these.
-use Rattle.std.proofs.Common.{◌≡◌, ℕ, ◌+◌, ◌-◌, ◌<◌, ◌==◌, ◌^◌, Bool, true, false, cond, List, [], ◌∷◌, ◌++◌, length, map, All}
+use Rattle.std.proofs.Common.{◌≡◌, ℕ, ◌+◌, ◌-◌, ◌==◌, ◌^◌, Bool, true, false, cond, List, [], ◌∷◌, ◌++◌, length, map, All}
 use Rattle.std.proofs.Common.{Option, Some, None}
-use Rattle.std.proofs.Common.{Ok, Err, arith, ap, sym, ◌∙◌, subst, refl}
+use Rattle.std.proofs.Common.{Ok, arith, ap, sym, ◌∙◌, subst, refl}
 use Rattle.std.proofs.lemmas.Bool.{eqb-true}
 use Rattle.std.proofs.lemmas.List.{map-id}
 use Rattle.std.proofs.lemmas.List.Elements.{All-head, All-tail}
 use Rattle.wasm_base.specs.Item.{ReadsAs}
 use Rattle.wasm_base.specs.Leading.{in_table}
-use Rattle.wasm_base.specs.Name.{byte_at, peeked_byte_at}
+use Rattle.wasm_base.specs.Name.{peeked_byte_at}
 use Rattle.wasm_base.specs.Number.{unsigned_at}
 use Rattle.wasm_base.specs.Outcome.{Outcome, ◌>>=◌}
 use Rattle.wasm_base.specs.Owned.{in_turn, list_at}
@@ -24,9 +24,9 @@ use Rattle.wasm_encode.proofs.ImportsBack.{reads_u32}
 use Rattle.wasm_encode.proofs.Readings.{Reads, same_spot, reads_nothing, reads_then, reads_as, encodes_so}
 use Rattle.wasm_encode.proofs.TypesBack.{reads_val}
 use Rattle.wasm_items.specs.RecGroups.{value_storage_at, storage_type_at, mutability_at, field_type_at, function_parts, func_type_at}
-use Rattle.wasm_items.specs.RecGroups.{CompositeParts, functions, arrays, structures, composite_parts, functions_at, arrays_at}
+use Rattle.wasm_items.specs.RecGroups.{functions, arrays, structures, composite_parts, functions_at, arrays_at}
 use Rattle.wasm_items.specs.RecGroups.{structures_at}
-use Rattle.wasm_items.specs.RecGroups.{composite_type_at, SubtypeParts, subtype_parts, one_supertype_at, supertypes_at, extending_at}
+use Rattle.wasm_items.specs.RecGroups.{composite_type_at, subtype_parts, one_supertype_at, supertypes_at, extending_at}
 use Rattle.wasm_items.specs.RecGroups.{plain_subtype_at, subtype_at, RecGroupParts, rec_group_parts, whole_group_at}
 use Rattle.wasm_items.specs.RecGroups.{single_group_at, rec_group_at}
 use Rattle.wasm_items.specs.Values.{val_type_at}

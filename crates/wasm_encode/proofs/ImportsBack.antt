@@ -1,5 +1,5 @@
 -- The bytes of imports and exports are read as these.
-use Rattle.std.proofs.Common.{◌≡◌, ℕ, ◌+◌, ◌<◌, ◌^◌, true, List, [], ◌∷◌, ◌++◌, length, Some, Ok, Err, arith, refl}
+use Rattle.std.proofs.Common.{◌≡◌, ℕ, ◌<◌, ◌^◌, true, List, [], ◌∷◌, ◌++◌, Some, Ok, refl}
 use Rattle.wasm_base.specs.Item.{ReadsAs}
 use Rattle.wasm_base.specs.Leading.{in_table}
 use Rattle.wasm_base.specs.Name.{name_limit, text_at}
@@ -12,7 +12,7 @@ use Rattle.wasm_encode.specs.Imports.{export_bytes, is_exported, ExportFits}
 use Rattle.wasm_encode.specs.Limits.{table_type_bytes, memory_type_bytes, global_type_bytes, tag_type_bytes}
 use Rattle.wasm_encode.specs.Names.{name_bytes}
 use Rattle.wasm_encode.specs.Numbers.{unsigned_bytes}
-use Rattle.wasm_encode.specs.ReadsBack.{spot, Encodes}
+use Rattle.wasm_encode.specs.ReadsBack.{Encodes}
 use Rattle.wasm_encode.proofs.LimitsBack.{reads_table_type, reads_memory_type, reads_global_type, reads_tag_type}
 use Rattle.wasm_encode.proofs.NamesBack.{reads_name}
 use Rattle.wasm_encode.proofs.NumbersBack.{unsigned_at_spot}

@@ -1,5 +1,5 @@
 -- The most bytes that types have.
-use Rattle.std.proofs.Common.{◌≡◌, ℕ, ◌+◌, ◌≤◌, ◌<◌, ◌^◌, Bool, true, false, List, [], ◌∷◌, ◌++◌, length, length-append, Option}
+use Rattle.std.proofs.Common.{ℕ, ◌≤◌, ◌<◌, ◌^◌, false, List, ◌∷◌, length, length-append, Option}
 use Rattle.std.proofs.Common.{Some, None, arith}
 use Rattle.wasm_encode.specs.Imports.{type_ref_bytes}
 use Rattle.wasm_encode.specs.Limits.{maybe_number, limits_bytes, table_type_bytes, memory_type_bytes, global_type_bytes}

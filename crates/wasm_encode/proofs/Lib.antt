@@ -19,3 +19,9 @@ pub mod OperatorsBack
 pub mod SegmentsBack
 pub mod TablesBack
 pub mod GroupsBack
+pub mod SoFar
+pub mod Admitting
+pub mod Growing
+pub mod Adding
+pub mod CustomBack
+pub mod ReadModules

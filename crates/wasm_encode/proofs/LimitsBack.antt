@@ -1,16 +1,14 @@
 -- The bytes of the types of tables, memories, globals and tags are read as these.
-use Rattle.std.proofs.Common.{◌≡◌, ℕ, suc, ◌+◌, ◌<◌, ◌≤◌, ◌^◌, ◌||◌, Bool, true, false, cond, IsTrue, List, [], ◌∷◌, ◌++◌, length}
+use Rattle.std.proofs.Common.{◌≡◌, ℕ, ◌+◌, ◌<◌, ◌≤◌, ◌^◌, ◌||◌, Bool, true, false, cond, IsTrue, List, [], ◌∷◌, ◌++◌, length}
 use Rattle.std.proofs.Common.{Option, Some, None, Ok, Err}
-use Rattle.std.proofs.Common.{arith, ap, sym, ◌∙◌, refl, nat_lt, append_assoc, append-nil, length-append, ltb-true}
-use Rattle.std.proofs.lemmas.Bool.{le-ltb, lt-ltb}
+use Rattle.std.proofs.Common.{arith, refl, nat_lt, append_assoc, length-append, ltb-true}
+use Rattle.std.proofs.lemmas.Bool.{lt-ltb}
 use Rattle.wasm_base.specs.Bits.{has_bit}
-use Rattle.wasm_base.specs.FaultAt.{FaultAt, at_offset}
+use Rattle.wasm_base.specs.FaultAt.{at_offset}
 use Rattle.wasm_base.specs.Features.{takes_wide_limits}
 use Rattle.wasm_base.specs.Item.{ReadsAs}
 use Rattle.wasm_base.specs.Name.{byte_at}
-use Rattle.wasm_base.specs.Number.{unsigned_at}
-use Rattle.wasm_base.specs.Outcome.{Outcome, ◌>>=◌}
-use Rattle.wasm_base.specs.Window.{Place}
+use Rattle.wasm_base.specs.Outcome.{◌>>=◌}
 use Rattle.wasm_base.specs.declared.fault.Fault.TheVariants.{GlobalFlags, MemoryFlags, TableFlags}
 use Rattle.wasm_base.specs.declared.fault.NumberKind.TheVariants.{VarU32, VarU64}
 use Rattle.wasm_encode.specs.Limits.{flag, is_present, maybe_number, limits_bytes, IsBelow, LimitsFit, takes_limit, takes_maximum}
@@ -20,19 +18,18 @@ use Rattle.wasm_encode.specs.Limits.{global_flags, global_type_bytes}
 use Rattle.wasm_encode.specs.Limits.{tag_type_bytes}
 use Rattle.wasm_encode.specs.Numbers.{unsigned_bytes}
 use Rattle.wasm_encode.specs.ReadsBack.{spot, Encodes}
-use Rattle.wasm_encode.specs.Types.{ValFits, HeapFits, ref_bytes, val_bytes}
+use Rattle.wasm_encode.specs.Types.{ValFits, ref_bytes, val_bytes}
 use Rattle.wasm_encode.proofs.NumbersBack.{unsigned_at_spot}
 use Rattle.wasm_encode.proofs.Readings.{Reads, same_spot, reads_nothing, reads_then, reads_as, reads_flags, encodes_so}
 use Rattle.wasm_encode.proofs.TypesBack.{reads_ref, reads_val}
 use Rattle.wasm_items.specs.Globals.{global_type_at}
-use Rattle.wasm_items.specs.Limits.{has_maximum, is_shared, is_wide, has_page_size, limit_at, some_limit_at, maximum_at, limits_at}
-use Rattle.wasm_items.specs.Memories.{small_page_size, page_size_at, memory_after_flags, memory_type_at}
+use Rattle.wasm_items.specs.Limits.{has_maximum, has_page_size, limit_at, maximum_at, limits_at}
+use Rattle.wasm_items.specs.Memories.{page_size_at, memory_after_flags, memory_type_at}
 use Rattle.wasm_items.specs.Tables.{table_after_flags, table_type_at}
 use Rattle.wasm_items.specs.Tags.{tag_type_at}
 use Rattle.wasm_items.specs.Values.{ref_type_at, val_type_at}
 use Rattle.wasm_items.specs.declared.types.GlobalType.{GlobalType}
 use Rattle.wasm_items.specs.declared.types.MemoryType.{MemoryType}
-use Rattle.wasm_items.specs.declared.types.RefType.{RefType}
 use Rattle.wasm_items.specs.declared.types.TableType.{TableType}
 use Rattle.wasm_items.specs.declared.types.TagKind.{TagKind}
 use Rattle.wasm_items.specs.declared.types.TagKind.TheVariants.{Exception}

@@ -1,5 +1,5 @@
 -- The bytes of names are read as the names.
-use Rattle.std.proofs.Common.{◌≡◌, ℕ, ◌+◌, ◌<◌, ◌≤◌, true, List, ◌++◌, length, take, drop, Some, Ok, arith, ap, sym, ◌∙◌}
+use Rattle.std.proofs.Common.{◌≡◌, ℕ, ◌+◌, ◌≤◌, true, List, ◌++◌, length, take, drop, Some, Ok, arith, ap, sym, ◌∙◌}
 use Rattle.std.proofs.Common.{append_assoc, length-append, refl}
 use Rattle.std.proofs.Math.Seq.{take-append_seam, drop-append_seam}
 use Rattle.std.proofs.lemmas.Bool.{le-ltb}
@@ -19,7 +19,7 @@ within : (bytes text : List ℕ) (used : ℕ) → length text ≤ length (drop u
 within bytes text used enough taken utf8 short = grind (arith, le-ltb)
 
 -- a text after its size
-text_back : (text later size : List ℕ) → number VarU32 (size ++ (text ++ later)) ≡ read (length text) (length size)
+pub text_back : (text later size : List ℕ) → number VarU32 (size ++ (text ++ later)) ≡ read (length text) (length size)
     → is_utf8 text ≡ true → length text ≤ name_limit
     → name (Some name_limit) (size ++ (text ++ later)) ≡ named text (length size + length text)
 unfolding name

@@ -1,22 +1,21 @@
 -- The bytes of numbers are read as the numbers.
 use Rattle.std.proofs.Common.{◌≡◌, ℕ, zero, suc, ◌+◌, ◌-◌, ◌*◌, ◌<◌, ◌≤◌, ◌/◌, ◌%◌, ◌^◌, Bool, true, false, List, [], ◌∷◌, ◌++◌}
 use Rattle.std.proofs.Common.{length, take}
-use Rattle.std.proofs.Common.{arith, ap, sym, ◌∙◌, Option, Some, slice_index, Ok, subst, refl, ℤ, pos, negsuc, ◌-ℤ◌, nat_lt, cond}
+use Rattle.std.proofs.Common.{arith, ap, sym, ◌∙◌, Some, slice_index, Ok, refl, ℤ, pos, negsuc, ◌-ℤ◌, nat_lt, cond}
 use Rattle.std.proofs.Math.Nat.{pow-succ'}
 use Rattle.std.proofs.Math.Seq.{drop-append_seam, take-append_seam}
 use Rattle.std.proofs.lemmas.Bool.{lt-ltb, le-ltb, le-leb}
 use Rattle.std.proofs.lemmas.Int.{ints}
 use Rattle.wasm_base.specs.Item.{ReadsAs}
-use Rattle.wasm_base.specs.Number.{Number, read, number, ends_at, last_place, septets, most_bytes, bits_of, is_unused_right}
+use Rattle.wasm_base.specs.Number.{read, number, ends_at, last_place, septets, most_bytes, bits_of, is_unused_right}
 use Rattle.wasm_base.specs.Number.{in_window, unsigned_at}
-use Rattle.wasm_base.specs.Outcome.{◌>>=◌}
 use Rattle.wasm_base.specs.Signed.{signed_value, signed_at, FitsBits}
 use Rattle.wasm_base.specs.Widths.{is_signed}
 use Rattle.wasm_base.specs.declared.fault.NumberKind.{NumberKind}
 use Rattle.wasm_base.specs.declared.fault.NumberKind.TheVariants.{VarU32, VarI32, VarU64, VarI64, VarS33}
 use Rattle.wasm_encode.specs.Numbers.{septet, leb, septets_of, unsigned_bytes, signed_bytes}
 use Rattle.wasm_encode.specs.ReadsBack.{spot, Encodes}
-use Rattle.wasm_encode.proofs.Numbers.{IsLimit, span, leb_enough, leb_least, leb_most, rest_below, limit_least}
+use Rattle.wasm_encode.proofs.Numbers.{span, leb_enough, leb_least, leb_most, rest_below}
 
 pow_more : (b m : ℕ) → b ^ suc m ≡ b * b ^ m
 pow_more b m = pow-succ' b m

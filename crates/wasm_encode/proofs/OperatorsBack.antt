@@ -1,17 +1,15 @@
 -- The bytes of constant operators are read as the operators.
-use Rattle.std.proofs.Common.{◌≡◌, ℕ, ◌+◌, ◌*◌, ◌<◌, ◌≤◌, ◌^◌, ◌==◌, Bool, true}
-use Rattle.std.proofs.Common.{false, List, [], ◌∷◌, ◌++◌, length, take, drop, Option, Some, Ok}
-use Rattle.std.proofs.Common.{arith, ap, sym, ◌∙◌, refl, subst, append-nil, append_assoc, length-append}
+use Rattle.std.proofs.Common.{◌≡◌, ℕ, ◌+◌, ◌*◌, ◌<◌, ◌^◌, ◌==◌, Bool, true}
+use Rattle.std.proofs.Common.{false, List, ◌∷◌, ◌++◌, length, take, drop, Option, Some, Ok}
+use Rattle.std.proofs.Common.{arith, ap, refl, subst, append_assoc, length-append}
 use Rattle.std.specs.Int.{to_le_bytes, w32, w64}
 use Rattle.wasm_base.specs.Float.{bits_of_32, bits_of_64, u64_at}
 use Rattle.wasm_base.specs.Item.{ReadsAs}
 use Rattle.wasm_base.specs.Name.{bytes_at, of_four, u32_at}
-use Rattle.wasm_base.specs.Number.{unsigned_at}
-use Rattle.wasm_base.specs.Outcome.{Outcome, ◌>>=◌}
-use Rattle.wasm_base.specs.Window.{Place}
+use Rattle.wasm_base.specs.Outcome.{Outcome}
 use Rattle.wasm_base.specs.declared.fault.NumberKind.TheVariants.{VarU32, VarI32, VarI64}
-use Rattle.wasm_encode.specs.Numbers.{signed_bytes, unsigned_bytes}
-use Rattle.wasm_encode.specs.Operators.{OperatorFits, after_opcode_bytes, opcode, operand_bytes, operator_bytes, operator_read_at}
+use Rattle.wasm_encode.specs.Numbers.{unsigned_bytes}
+use Rattle.wasm_encode.specs.Operators.{OperatorFits, after_opcode_bytes, opcode, operator_bytes, operator_read_at}
 use Rattle.wasm_encode.specs.ReadsBack.{spot, Encodes}
 use Rattle.wasm_encode.proofs.CopiedExpressions.{bytes_back}
 use Rattle.wasm_encode.proofs.NumbersBack.{signed_at_spot, unsigned_at_spot}

@@ -1,5 +1,5 @@
 -- Readings of bytes that encode a value, and how they are put together.
-use Rattle.std.proofs.Common.{◌≡◌, ℕ, ◌+◌, Bool, true, false, cond, List, [], ◌∷◌, ◌++◌, length, arith, ap, sym, ◌∙◌, Ok, Err}
+use Rattle.std.proofs.Common.{◌≡◌, ℕ, ◌+◌, Bool, true, false, cond, List, [], ◌∷◌, ◌++◌, length, arith, ap, ◌∙◌, Ok, Err}
 use Rattle.std.proofs.Common.{refl, append_assoc, length-append, nat_lt, ◌≤◌}
 use Rattle.std.proofs.lemmas.Bool.{le-ltb}
 use Rattle.wasm_base.specs.FaultAt.{FaultAt}

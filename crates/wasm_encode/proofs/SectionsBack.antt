@@ -1,5 +1,5 @@
 -- The content of a section is read as its items.
-use Rattle.std.proofs.Common.{◌≡◌, ℕ, suc, ◌+◌, ◌<◌, ◌^◌, List, [], ◌∷◌, ◌++◌, length, Ok, map, All, arith, refl, append-nil}
+use Rattle.std.proofs.Common.{◌≡◌, ℕ, ◌+◌, ◌<◌, ◌^◌, List, [], ◌∷◌, ◌++◌, length, map, All, arith, refl, append-nil}
 use Rattle.std.proofs.Common.{append_assoc, length-append, subst, ap, sym, ◌∙◌, take, drop, slice_index_or, ◌≤◌}
 use Rattle.std.proofs.lemmas.List.Elements.{All-head, All-tail}
 use Rattle.std.proofs.lemmas.List.{take_more, take_all, take-append-drop}
@@ -8,8 +8,8 @@ use Rattle.wasm_base.specs.Section.{ItemsOf, as_read}
 use Rattle.wasm_base.specs.Window.{Place}
 use Rattle.wasm_base.specs.declared.fault.NumberKind.TheVariants.{VarU32}
 use Rattle.wasm_encode.specs.Numbers.{unsigned_bytes}
-use Rattle.wasm_encode.specs.ReadsBack.{spot, Encodes}
-use Rattle.wasm_encode.specs.Sections.{items_bytes, content_bytes, placed_items, ItemsBack, IsReadBack}
+use Rattle.wasm_encode.specs.ReadsBack.{spot}
+use Rattle.wasm_encode.specs.Sections.{items_bytes, placed_items, ItemsBack, IsReadBack}
 use Rattle.wasm_encode.proofs.NumbersBack.{unsigned_at_spot}
 
 items_of : {T : Type 0} (meaning : Place → Outcome T → Type 0) (features offset : ℕ) (encoded : T → List ℕ)

@@ -1,5 +1,5 @@
 -- What segments have in common: their flags, which are numbers below 128.
-use Rattle.std.proofs.Common.{◌≡◌, ℕ, ◌+◌, ◌<◌, ◌≤◌, false, List, [], ◌∷◌, ◌++◌, length, Option, Some, Ok, arith, refl, subst}
+use Rattle.std.proofs.Common.{◌≡◌, ℕ, ◌+◌, ◌<◌, ◌≤◌, false, List, ◌∷◌, ◌++◌, length, Some, Ok, arith, refl, subst}
 use Rattle.std.proofs.lemmas.Bool.{le-ltb}
 use Rattle.wasm_base.specs.Leading.{flags_at}
 use Rattle.wasm_base.specs.Number.{unsigned_at}

@@ -2,7 +2,6 @@
 use Rattle.std.proofs.Common.{◌≡◌, ℕ, ◌+◌, ◌==◌, Bool, true, false, List, [], ◌∷◌}
 use Rattle.std.proofs.Common.{◌++◌, length, Ok, arith, ap, sym, ◌∙◌, refl, subst, append_assoc, length-append}
 use Rattle.wasm_base.specs.Item.{ReadsAs}
-use Rattle.wasm_base.specs.Outcome.{Outcome, ◌>>=◌}
 use Rattle.wasm_base.specs.Window.{Place}
 use Rattle.wasm_encode.specs.Expressions.{expression_bytes, expression_placed}
 use Rattle.wasm_encode.specs.Limits.{LimitsAllowed, TableFits, limits_bytes, table_flags, table_type_bytes}
@@ -18,7 +17,6 @@ use Rattle.wasm_items.specs.declared.tables.TableInit.{TableInit}
 use Rattle.wasm_items.specs.declared.tables.TableInit.TheVariants.{RefNull, Expr}
 use Rattle.wasm_items.specs.declared.types.HeapType.{HeapType}
 use Rattle.wasm_items.specs.declared.types.HeapType.TheVariants as Heaps
-use Rattle.wasm_items.specs.declared.types.RefType.{RefType}
 use Rattle.wasm_items.specs.declared.types.TableType.{TableType}
 
 -- bytes whose first isn't that of a table with an expression

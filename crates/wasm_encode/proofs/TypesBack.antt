@@ -1,11 +1,9 @@
 -- The bytes of value types, reference types and heap types are read as these.
-use Rattle.std.proofs.Common.{◌≡◌, ℕ, zero, suc, ◌+◌, ◌<◌, ◌≤◌, ◌%◌, ◌/◌, ◌^◌, ◌⊎◌, inl, inr, Bool, true, false, List, [], ◌∷◌}
+use Rattle.std.proofs.Common.{◌≡◌, ℕ, ◌+◌, ◌<◌, ◌≤◌, ◌%◌, ◌/◌, ◌^◌, ◌⊎◌, inl, inr, Bool, true, false, List, [], ◌∷◌}
 use Rattle.std.proofs.Common.{◌++◌, length}
-use Rattle.std.proofs.Common.{arith, ap, sym, ◌∙◌, Option, Some, None, Ok, subst, refl, pos, nat_lt, ltb-true, ltb-false}
-use Rattle.std.proofs.Common.{append_assoc, length-append, ◌≤ℤ◌, ◌<ℤ◌}
+use Rattle.std.proofs.Common.{arith, ap, sym, ◌∙◌, None, Ok, subst, refl, pos, nat_lt, ltb-true, ltb-false}
 use Rattle.std.proofs.lemmas.Int.{ints}
 use Rattle.wasm_base.specs.Item.{ReadsAs}
-use Rattle.wasm_base.specs.Outcome.{Outcome, ◌>>=◌}
 use Rattle.wasm_base.specs.Signed.{signed_at, FitsBits}
 use Rattle.wasm_base.specs.Window.{Place}
 use Rattle.wasm_base.specs.declared.fault.Lead.{Lead}
@@ -19,8 +17,8 @@ use Rattle.wasm_items.specs.declared.types.ValType.{ValType}
 use Rattle.wasm_items.specs.declared.types.ValType.TheVariants as Values
 use Rattle.wasm_encode.specs.Numbers.{septets_of, signed_bytes}
 use Rattle.wasm_encode.specs.ReadsBack.{spot, Encodes}
-use Rattle.wasm_encode.specs.Types.{heap_byte, heap_index, HeapFits, heap_bytes, ref_bytes, val_bytes, ValFits}
-use Rattle.wasm_encode.proofs.Numbers.{IsLimit, septets_more, septets_last}
+use Rattle.wasm_encode.specs.Types.{HeapFits, heap_bytes, ref_bytes, val_bytes, ValFits}
+use Rattle.wasm_encode.proofs.Numbers.{septets_more, septets_last}
 use Rattle.wasm_encode.proofs.NumbersBack.{signed_at_spot}
 use Rattle.wasm_encode.proofs.Readings.{Reads, same_spot, encodes_so}
 

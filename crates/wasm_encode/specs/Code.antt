@@ -14,6 +14,8 @@ use Rattle.wasm_items.specs.declared.code.FunctionBody.{FunctionBody}
 abbrev pub body_content : FunctionBody → List ℕ
 body_content body = (place (body_window body)).rest
 
+-- | the bytes of a function body: its size and its content; whether it fits; a body as it is read at an offset
+--   [`body_content`; `BodyFits`; `body_placed`] <Code Section>
 -- a body: its size, and its bytes, which are copied
 unfoldable pub body_bytes : FunctionBody → List ℕ
 body_bytes body = unsigned_bytes (length (body_content body)) ++ body_content body
@@ -27,6 +29,7 @@ body_placed features offset body = record {
   reader = window_over features (offset + length (unsigned_bytes (length (body_content body)))) (body_content body);
 }
 
+-- | a section of function bodies that fit is a well-formed code section of a module <Code Section>
 -- A section of bodies that fit is a well-formed code section of a module: a count, and as many bodies.
 abbrev pub CodeSectionsAreFrames : Type 0
 CodeSectionsAreFrames = (bodies : List FunctionBody) → SectionFits body_bytes BodyFits bodies

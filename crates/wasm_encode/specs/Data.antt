@@ -18,6 +18,9 @@ abbrev pub data_kind_bytes : DataKind → List ℕ
 data_kind_bytes Passive = 0x01 ∷ []
 data_kind_bytes (Active memory offset) = memory_bytes memory ++ expression_bytes offset
 
+-- | the bytes of a data segment: its flags, for an active one its memory and the expression of its offset, then a size
+--   and as many bytes; whether it fits; a segment as it is read at an offset [`data_kind_bytes`, `memory_bytes`;
+--   `DataFits`, `DataKindFits`, `ActiveFits`; `data_placed`, `data_kind_placed`] <Data Section>
 -- a data segment: its kind, a size, and as many bytes
 unfoldable pub data_bytes : Data → List ℕ
 data_bytes segment =

@@ -16,6 +16,8 @@ use Rattle.wasm_items.specs.declared.instructions.ConstInstruction.{ConstInstruc
 
 -- ---- expressions that are copied
 
+-- | the bytes of an expression that is copied, and the expression as it is read at an offset [`expression_placed`]
+--   <Instructions, Expressions>
 -- the bytes of an expression: those that its window has in front of its reader
 abbrev pub expression_bytes : ConstExpr → List ℕ
 expression_bytes expression = (place (expression_window expression)).rest
@@ -26,6 +28,8 @@ expression_placed features offset init = record { reader = window_over features 
 
 -- ---- expressions that are made of operators
 
+-- | the bytes of an expression of given operators: the operators and `end`; whether it fits: none is `end`, and it has
+--   fewer than 2^32 bytes [; `OperatorsFit`] <Instructions, Expressions>
 -- the operators, and `end`
 abbrev pub operators_bytes : List ConstOperator → List ℕ
 operators_bytes operators = items_bytes operator_bytes operators ++ 0x0B ∷ []
@@ -42,6 +46,8 @@ instructions_placed offset [] = record { offset = offset; operator = End } ∷ [
 instructions_placed offset (x ∷ xs) = record { offset = offset; operator = x }
     ∷ instructions_placed (offset + length (operator_bytes x)) xs
 
+-- | the bytes of operators and `end`, at an offset, are read as one constant expression, whose instructions are exactly
+--   these [`instructions_placed`]
 -- The bytes of operators and `end`, at an offset, are one constant expression: it is read as their window, whatever
 -- comes after them, and its instructions are exactly these.
 pub record OperatorsBack (features offset : ℕ) (operators : List ConstOperator) : Type 0 where

@@ -2,6 +2,7 @@
 use Rattle.std.specs.Prelude.{ℕ, ◌+◌, ◌<◌, ◌^◌, List, length, All}
 use Rattle.wasm_encode.specs.Sections.{items_bytes}
 
+-- | items that fit, and with this many bytes before them have fewer than 2^32
 -- Each item fits. With this many bytes before them, they have fewer than 2^32.
 pub record ItemsFit {T : Type 0} (encoded : T → List ℕ) (is_encodable : T → Type 0) (before : ℕ) (xs : List T)
     : Type 0 where

@@ -1,5 +1,5 @@
 -- The bytes of imports and exports. Core specification, Binary format, Modules, Import Section and Export Section.
-use Rattle.std.specs.Prelude.{◌≡◌, ℕ, ◌<◌, ◌^◌, Bool, true, false, List, [], ◌∷◌, ◌++◌}
+use Rattle.std.specs.Prelude.{◌≡◌, ℕ, ◌<◌, ◌^◌, Bool, true, false, List, ◌∷◌, ◌++◌}
 use Rattle.wasm_encode.specs.Limits.{global_type_bytes, memory_type_bytes, table_type_bytes, tag_type_bytes}
 use Rattle.wasm_encode.specs.Limits.{LimitsAllowed, MemoryFits, TableFits}
 use Rattle.wasm_encode.specs.Names.{name_bytes, NameFits}

@@ -1,16 +1,21 @@
 -- What encodings are read as.
-use Rattle.std.specs.Prelude.{◌≡◌, ℕ, ◌<◌, ◌^◌, false, true, ℤ}
+use Rattle.std.specs.Prelude.{◌≡◌, ℕ, ◌<◌, ◌^◌, ◌↔◌, List, false, true, ℤ}
 use Rattle.wasm_base.specs.Item.{ReadsAs}
 use Rattle.wasm_base.specs.Number.{bits_of, unsigned_at}
 use Rattle.wasm_base.specs.Signed.{signed_at, FitsBits}
 use Rattle.wasm_base.specs.Widths.{is_signed}
 use Rattle.wasm_base.specs.declared.fault.NumberKind.{NumberKind}
 use Rattle.wasm_encode.specs.Consumed.{CopiesItsBytes}
+use Rattle.wasm_encode.specs.Modules.{IsModule}
 use Rattle.wasm_encode.specs.Numbers.{unsigned_bytes, signed_bytes}
 use Rattle.wasm_encode.specs.ReadsBack.{Encodes}
+use Rattle.wasm_grammar.specs.Accepted.{SectionFrame}
+use Rattle.wasm_grammar.specs.FrameEvents.{TellsFrames}
+use Rattle.wasm_grammar.specs.Reading.{Event, Reading, Stream}
+use Rattle.wasm_grammar.specs.declared.encoding.Encoding.TheVariants.{Module}
 
 -- | numbers that fit their kind are read as themselves; bytes of a number that was read are read as it
---   wherever they are [`UnsignedNumbersReadBack`, `SignedNumbersReadBack`; `NumbersAreCopied`]
+--   wherever they are [`SignedNumbersReadBack`; `NumbersAreCopied`]
 -- An unsigned number that fits its kind is read as itself.
 abbrev pub UnsignedNumbersReadBack : Type 0
 UnsignedNumbersReadBack = (kind : NumberKind) (features n : ℕ) → is_signed kind ≡ false → n < 2 ^ bits_of kind
@@ -24,3 +29,10 @@ SignedNumbersReadBack = (kind : NumberKind) (features : ℕ) (n : ℤ) → is_si
 -- Copying the bytes of a number that was read writes it, also where they aren't the shortest.
 abbrev pub NumbersAreCopied : Type 0
 NumbersAreCopied = (kind : NumberKind) → CopiesItsBytes (unsigned_at kind)
+
+-- | the reading of a module with these sections is their events, in order
+-- The reading of a module with these sections is their events, in order.
+abbrev pub ModulesAreRead : Type 0
+ModulesAreRead = (frames : List SectionFrame) (stream : List ℕ) → IsModule frames stream
+    → (start features : ℕ) (events : List Event) → Stream stream start
+    → Reading stream start features events ↔ TellsFrames start features Module frames events

@@ -16,3 +16,5 @@ pub mod Expressions
 pub mod Fitting
 pub mod Operators
 pub mod Tables
+pub mod Custom
+pub mod Modules

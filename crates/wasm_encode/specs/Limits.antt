@@ -3,7 +3,7 @@ use Rattle.std.specs.Prelude.{ℕ, ◌+◌, ◌<◌, ◌^◌, Bool, true, false,
 use Rattle.std.specs.Prelude.{Some, None, nat_lt}
 use Rattle.wasm_base.specs.Features.{takes_wide_limits}
 use Rattle.wasm_encode.specs.Numbers.{unsigned_bytes}
-use Rattle.wasm_encode.specs.Types.{HeapFits, ValFits, ref_bytes, val_bytes}
+use Rattle.wasm_encode.specs.Types.{HeapFits, ref_bytes, val_bytes}
 use Rattle.wasm_items.specs.declared.types.GlobalType.{GlobalType}
 use Rattle.wasm_items.specs.declared.types.MemoryType.{MemoryType}
 use Rattle.wasm_items.specs.declared.types.TableType.{TableType}

@@ -1,5 +1,5 @@
 -- The bytes of constant operators. Core specification, Binary format, Instructions.
-use Rattle.std.specs.Prelude.{◌≡◌, ℕ, ◌+◌, ◌<◌, ◌^◌, List, [], ◌∷◌, ◌++◌, length, Option, Some, None, Ok}
+use Rattle.std.specs.Prelude.{◌≡◌, ℕ, ◌<◌, ◌^◌, List, [], ◌∷◌, ◌++◌, length, Option, Some, None, Ok}
 use Rattle.std.specs.Int.{to_le_bytes, w32, w64}
 use Rattle.wasm_base.specs.Float.{bits_of_32, bits_of_64}
 use Rattle.wasm_base.specs.Outcome.{Outcome, ◌>>=◌}
@@ -71,6 +71,9 @@ operand_bytes other = []
 abbrev pub after_opcode_bytes : ConstOperator → List ℕ
 after_opcode_bytes operator = maybe_byte (opcode_number operator) ++ operand_bytes operator
 
+-- | the bytes of a constant operator: its opcode, after 0xFB and 0xFD another number, and its operands; whether it
+--   fits; the operator of the instruction at a place [`opcode`, `opcode_number`, `operand_bytes`, `after_opcode_bytes`;
+--   `OperatorFits`; `operator_read_at`] <Instructions>
 -- an operator
 unfoldable pub operator_bytes : ConstOperator → List ℕ
 operator_bytes operator = opcode operator ∷ after_opcode_bytes operator

@@ -1,6 +1,6 @@
 -- The bytes of groups of types. Core specification, Binary format, Types, Recursive Types and Composite Types, and
 -- Modules, Type Section.
-use Rattle.std.specs.Prelude.{◌≡◌, ℕ, ◌-◌, ◌<◌, ◌==◌, ◌^◌, Bool, true, false, ◌||◌, List, [], ◌∷◌, ◌++◌, length}
+use Rattle.std.specs.Prelude.{◌≡◌, ℕ, ◌-◌, ◌==◌, ◌^◌, Bool, true, false, ◌||◌, List, [], ◌∷◌, ◌++◌, length}
 use Rattle.std.specs.Prelude.{Option, Some, None, if◌then◌else◌}
 use Rattle.wasm_encode.specs.Limits.{flag, IsBelow}
 use Rattle.wasm_encode.specs.Numbers.{unsigned_bytes}

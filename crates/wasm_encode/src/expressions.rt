@@ -37,10 +37,19 @@ fn are_inner(operators: &[ConstOperator]) -> bool
     true
 }
 
-/// Returns whether operators can be written as an expression: none is `end`, and the expression has fewer than 2^32
-/// bytes.
+/// Returns whether operators can be written as a constant expression: none is `end`, and the expression has fewer than
+/// 2^32 bytes.
+///
+/// ```rattle
+/// assert!(rt; expression_fits(&[ConstOperator::I32Const { value: 5 }]));
+/// assert!(rt; !expression_fits(&[ConstOperator::End]));
+/// ```
+///
+/// (Core specification, Binary format, Instructions, Expressions.)
 #[tactic(auto, using(crate::proofs::ExpressionsBack::one_after))]
 pub fn expression_fits(operators: &[ConstOperator]) -> bool
+    // Proved: whether operators can be written as an expression: none is `end`, and all have fewer than 2^32 bytes with
+    //   the `end` after them
     ensures { IsTrue result ↔ OperatorsFit operators.now }
 {
     if !are_inner(operators) {
@@ -49,22 +58,48 @@ pub fn expression_fits(operators: &[ConstOperator]) -> bool
     items_fit(operators, 1)
 }
 
-/// Returns how many bytes an expression of these operators has, with its `end`.
+/// Returns how many bytes `write_expression` writes of these operators, with the `end` after them.
+///
+/// The operators must fit (`expression_fits`).
+///
+/// ```rattle
+/// assert_eq!(rt; expression_len(&[ConstOperator::I32Const { value: 5 }]), 3);
+/// ```
+///
+/// (Core specification, Binary format, Instructions, Expressions.)
 #[tactic(auto, using(crate::proofs::ExpressionsBack::inner_few))]
 pub fn expression_len(operators: &[ConstOperator]) -> usize
     requires { OperatorsFit operators.now }
+    // Proved: `expression_len` is how many bytes `write_expression` writes
     ensures { result ≡ length (operators_bytes operators.now) }
 {
     items_len(operators) + 1
 }
 
-/// Writes an expression of these operators and `end` at the index `at`, where there must be room for it, and returns the
-/// index after it.
+/// Writes a constant expression: these operators, and `end`.
+///
+/// Writes at the index `at`, where there must be room for it, and returns the index after it. The operators must fit
+/// (`expression_fits`).
+///
+/// ```rattle
+/// let operators = [
+///     ConstOperator::GlobalGet { global_index: 0 },
+///     ConstOperator::I32Const { value: 8 },
+///     ConstOperator::I32Add,
+/// ];
+/// let mut bytes = [0; 6];
+/// write_expression(&mut bytes, 0, &operators);
+/// assert_eq!(rt; &bytes, b"\x23\0\x41\x08\x6a\x0b");
+/// ```
+///
+/// (Core specification, Binary format, Instructions, Expressions.)
 #[tactic(auto, using(crate::proofs::RestStays::stays_on))]
 pub fn write_expression(bytes: &mut [u8], at: usize, operators: &[ConstOperator]) -> usize
     requires fits { OperatorsFit operators.now }
     requires room { at + length (operators_bytes operators.now) ≤ length bytes.old }
     ensures end { result ≡ at + length (operators_bytes operators.now) }
+    // Proved: an expression is written as its operators and `end`, and no byte before or after it changes [`written`,
+    //   `rest` of `write_expression` (`operators_bytes`)]
     ensures written { take result bytes.new ≡ take at bytes.old ++ operators_bytes operators.now }
     ensures rest { drop result bytes.new ≡ drop result bytes.old }
     ensures len { length bytes.new ≡ length bytes.old }
@@ -74,9 +109,11 @@ pub fn write_expression(bytes: &mut [u8], at: usize, operators: &[ConstOperator]
 }
 
 /// An expression that was written is one constant expression, wherever it is, and its instructions are exactly these
-/// operators and `end`.
+/// operators and `end`. Does nothing.
 pub fn expression_reads_back(operators: &[ConstOperator])
     requires { OperatorsFit operators.now }
+    // Proved: an expression that was written, at any offset, is read as one constant expression whose instructions are
+    //   exactly the given operators and `end`
     ensures { (features offset : ℕ) → OperatorsBack features offset operators.now }
 {
     let _operators = operators;

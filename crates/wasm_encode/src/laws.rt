@@ -5,7 +5,7 @@ ghost use Rattle.wasm_encode.specs.Frames.{NumbersAreFrames, SectionsAreFrames};
 ghost use Rattle.wasm_encode.specs.Imports.{ImportFits, TypeRefAllowed, import_bytes};
 ghost use Rattle.wasm_encode.specs.Sections.{ItemsBack};
 ghost use Rattle.wasm_items.specs.Imports.{import_at, import_parts};
-ghost use Rattle.wasm_encode.specs.Laws.{NumbersAreCopied, SignedNumbersReadBack, UnsignedNumbersReadBack};
+ghost use Rattle.wasm_encode.specs.Laws.{ModulesAreRead, NumbersAreCopied, SignedNumbersReadBack, UnsignedNumbersReadBack};
 
 use crate::sections::section_reads_back;
 use wasm_items::Import;
@@ -51,4 +51,13 @@ pub fn sections_are_frames()
 pub fn number_sections_are_frames()
     // Proved: a section that is one number and was written is a well-formed section of a module
     ensures { NumbersAreFrames }
+{}
+
+/// The reading of a module that was written is the events of its header, of its sections in their order, and its end.
+///
+/// What a section of items is read as, `section_reads_back` says.
+pub fn modules_are_read()
+    // Proved: the reading of a module that was written is its header, its sections in the order in which they were
+    //   added, each at its offset, and its end [`laws::modules_are_read` (`ModulesAreRead`)]
+    ensures { ModulesAreRead }
 {}

@@ -1,9 +1,11 @@
 //! Writes the items of WebAssembly modules in the binary format, proved against the readers.
 //!
 //! * `Encode` is a type whose values can be written: each of its items is read back as itself.
-//! * `section_len` and `write_section` write a section of counted items, `write_number_section` one that is a number.
+//! * `section_len` and `write_section` write a section of counted items, `write_number_section` one that is a number,
+//!   `write_custom` a custom section.
+//! * `Module` is a module that is built section by section: what it ends as is accepted, with exactly these sections.
 //!
-//! Nothing allocates. Each item has one spelling, with numbers as short as possible. First ask whether the items fit
+//! Only `Module` allocates. Each item has one spelling, with numbers as short as possible. First ask whether the items fit
 //! and how many bytes they have; then write them into bytes of your own.
 //!
 //! ```rattle
@@ -17,6 +19,7 @@
 
 mod bytes;
 mod code;
+mod custom;
 mod data;
 mod encode;
 mod exports;
@@ -27,17 +30,21 @@ mod imports;
 mod indices;
 pub mod laws;
 mod limits;
+mod modules;
 mod names;
 mod number;
 mod operators;
 mod rec_groups;
+mod section_items;
 mod sections;
 mod tables;
 mod types;
 
 pub use code::code_sections_are_frames;
+pub use custom::{custom_fits, custom_len, write_custom};
 pub use encode::Encode;
 pub use expressions::{expression_fits, expression_len, expression_reads_back, write_expression};
+pub use modules::{Module, Refused, SectionItem, Unfinished};
 pub use names::{name_fits, name_len, write_name};
 pub use number::{signed_len, unsigned_len, write_signed, write_unsigned};
 pub use sections::{

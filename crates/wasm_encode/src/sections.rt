@@ -28,6 +28,7 @@ pub(crate) fn write_items<T: Encode>(bytes: &mut [u8], at: usize, items: &[T]) -
 /// Each item of a section whose items fit is read as itself, wherever it is. Does nothing.
 pub fn items_read_back<T: Encode>(items: &[T])
     requires { All T.is_encodable items.now }
+    // Proved: each item of a section that was written is read as itself, wherever it is
     ensures { All (IsReadBack T.meaning T.encoded T.is_allowed T.placed) items.now }
 {
     'items: for item in items {

@@ -2,6 +2,7 @@
 mod expressions;
 mod groups;
 mod items;
+mod modules;
 mod numbers;
 mod sections;
 mod segments;

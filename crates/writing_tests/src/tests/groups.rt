@@ -2,7 +2,6 @@
 use crate::tests::{encodes, is_refused};
 use std::alloc::Global;
 use std::process::Abort;
-use std::vec::Vec;
 use wasm_base::{BinaryReader, FromReaderIn};
 use wasm_encode::Encode;
 use wasm_items::{

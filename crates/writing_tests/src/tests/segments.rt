@@ -2,9 +2,7 @@
 use super::{encodes, is_refused};
 use wasm_base::BinaryReader;
 use wasm_encode::{section_len, write_section};
-use wasm_items::{
-    ConstExpr, Data, DataKind, FunctionBody, RefType, Table, TableInit, TableType,
-};
+use wasm_items::{ConstExpr, Data, DataKind, FunctionBody, RefType, Table, TableInit, TableType};
 
 fn expression<'a>(bytes: &'a [u8]) -> ConstExpr<'a> {
     ConstExpr::new(BinaryReader::new(bytes, 7))
@@ -19,7 +17,10 @@ fn tables(rt: HostRuntime) {
         maximum: None,
         shared: false,
     };
-    let null = Table { ty, init: TableInit::RefNull };
+    let null = Table {
+        ty,
+        init: TableInit::RefNull,
+    };
     encodes(&rt, &null, b"\x70\0\x01");
     let init = TableInit::Expr(expression(b"\xd2\x03\x0b"));
     encodes(&rt, &Table { ty, init }, b"\x40\0\x70\0\x01\xd2\x03\x0b");
@@ -43,7 +44,11 @@ fn data(rt: HostRuntime) {
             memory_index,
             offset_expr: expression(b"\x41\x08\x0b"),
         };
-        let segment = Data { kind, bytes: b"hi", range: 0..0 };
+        let segment = Data {
+            kind,
+            bytes: b"hi",
+            range: 0..0,
+        };
         encodes(&rt, &segment, wanted);
     }
 }
@@ -52,9 +57,15 @@ fn data(rt: HostRuntime) {
 fn bodies(rt: HostRuntime) {
     let body = FunctionBody::new(BinaryReader::new(b"\0\x0b", 16));
     encodes(&rt, &body, b"\x02\0\x0b");
-    let bodies = [body, FunctionBody::new(BinaryReader::new(b"\0\x01\x0b", 90))];
+    let bodies = [
+        body,
+        FunctionBody::new(BinaryReader::new(b"\0\x01\x0b", 90)),
+    ];
     let mut bytes = [0; 20];
     let end = write_section(&mut bytes, 0, 10, &bodies);
-    assert_eq!(&rt; &bytes[..end], b"\x0a\x08\x02\x02\0\x0b\x03\0\x01\x0b".as_slice());
+    assert_eq!(&rt;
+        &bytes[..end],
+        b"\x0a\x08\x02\x02\0\x0b\x03\0\x01\x0b".as_slice()
+    );
     assert_eq!(&rt; section_len(&bodies), end);
 }

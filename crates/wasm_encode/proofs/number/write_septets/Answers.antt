@@ -2,7 +2,7 @@ use Rattle.std.proofs.Common.{◌≡◌, ℕ, ◌+◌, ◌<◌, ◌/◌, ◌%◌
 use Rattle.std.proofs.lemmas.Grind.{common_steps}
 use Rattle.std.proofs.lemmas.List.{drop-set-lt}
 use Rattle.wasm_encode.specs.Numbers.{septet, septets_of}
-use Rattle.wasm_encode.proofs.Numbers.{put_more, septets_more, septets_some}
+use Rattle.wasm_encode.proofs.Numbers.{put_more, septets_more}
 use Rattle.wasm_encode.proofs.RestStays.{stays_on}
 use Rattle.wasm_encode.proofs.number.write_septets.Goals as goal
 

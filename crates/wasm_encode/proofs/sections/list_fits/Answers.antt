@@ -1,4 +1,4 @@
-use Rattle.std.proofs.Common.{◌≡◌, ◌+◌, ap, arith, length, length-append, subst, sym, take}
+use Rattle.std.proofs.Common.{◌+◌, ap, arith, length, length-append, subst, take}
 use Rattle.std.proofs.lemmas.List.Elements.{All-more}
 use Rattle.wasm_encode.specs.Numbers.{unsigned_bytes}
 use Rattle.wasm_encode.specs.Sections.{items_bytes}

@@ -1,0 +1,5 @@
+use Rattle.wasm_encode.proofs.ReadModules.{modules_are_read}
+use Rattle.wasm_encode.proofs.laws.modules_are_read.Goals as goal
+
+pub returns : goal.returns
+returns c = modules_are_read
