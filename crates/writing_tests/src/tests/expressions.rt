@@ -71,9 +71,10 @@ fn expressions(rt: HostRuntime) {
         ConstOperator::I32Add,
     ];
     assert!(&rt; expression_fits(&operators));
+    let size = expression_len(&operators);
+    assert!(&rt; size == 6);
     let mut bytes = [0xaa; 10];
     let end = write_expression(&mut bytes, 1, &operators);
     assert_eq!(&rt; &bytes[..end], b"\xaa\x23\0\x41\x08\x6a\x0b".as_slice());
-    assert_eq!(&rt; expression_len(&operators), 6);
     assert!(&rt; !expression_fits(&[ConstOperator::End]));
 }

@@ -213,9 +213,11 @@ fn builds_within(rt: &impl Abort, alloc: Global, blocks: u64) -> bool {
 
 #[test]
 fn allocations_that_fail(rt: HostRuntime) {
-    let mut blocks = 0;
-    while blocks < 10 && !builds_within(&rt, rt.alloc(), blocks) {
-        blocks += 1;
+    assert!(&rt; !builds_within(&rt, rt.alloc(), 0));
+    for blocks in 1..10 {
+        if builds_within(&rt, rt.alloc(), blocks) {
+            return;
+        }
     }
-    assert!(&rt; 0 < blocks && blocks < 10);
+    panic!(&rt; "ten blocks are not enough");
 }

@@ -1,7 +1,6 @@
 // Tables, data segments and bodies (core specification, Binary format, Modules).
 use super::{encodes, is_refused};
 use wasm_base::BinaryReader;
-use wasm_encode::{section_len, write_section};
 use wasm_items::{ConstExpr, Data, DataKind, FunctionBody, RefType, Table, TableInit, TableType};
 
 fn expression<'a>(bytes: &'a [u8]) -> ConstExpr<'a> {
@@ -57,15 +56,6 @@ fn data(rt: HostRuntime) {
 fn bodies(rt: HostRuntime) {
     let body = FunctionBody::new(BinaryReader::new(b"\0\x0b", 16));
     encodes(&rt, &body, b"\x02\0\x0b");
-    let bodies = [
-        body,
-        FunctionBody::new(BinaryReader::new(b"\0\x01\x0b", 90)),
-    ];
-    let mut bytes = [0; 20];
-    let end = write_section(&mut bytes, 0, 10, &bodies);
-    assert_eq!(&rt;
-        &bytes[..end],
-        b"\x0a\x08\x02\x02\0\x0b\x03\0\x01\x0b".as_slice()
-    );
-    assert_eq!(&rt; section_len(&bodies), end);
+    let body = FunctionBody::new(BinaryReader::new(b"\0\x01\x0b", 90));
+    encodes(&rt, &body, b"\x03\0\x01\x0b");
 }
