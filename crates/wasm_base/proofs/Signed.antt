@@ -40,7 +40,7 @@ septets_within (suc i) (x ∷ xs) h =
     (rw v (omega (arith, ih.0)), rw w (omega (arith, ih.1)))
 
 -- seven bits a septet
-seven_bits : (n : ℕ) → 2 ^ (7 * n) ≡ 128 ^ n
+pub seven_bits : (n : ℕ) → 2 ^ (7 * n) ≡ 128 ^ n
 seven_bits zero = refl
 seven_bits (suc n) =
     let e : 7 * suc n ≡ suc (suc (suc (suc (suc (suc (suc (7 * n))))))) = omega arith in

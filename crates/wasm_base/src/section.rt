@@ -137,6 +137,19 @@ impl<'a, T> SectionLimited<'a, T> {
         self.reader.original_position()
     }
 
+    /// Returns a reader over the items, after the count. `after_count` of it is this section again.
+    ///
+    /// ```rattle
+    /// let numbers = SectionLimited::<u32>::new(BinaryReader::new(&[2, 5, 7], 100))?;
+    /// assert_eq!(rt; numbers.get_binary_reader().remaining_buffer(), &[5, 7]);
+    /// ```
+    pub fn get_binary_reader(&self) -> BinaryReader<'a>
+        // Proved: `get_binary_reader` of a section is its window after the count
+        ensures { result ≡ self.now.reader }
+    {
+        self.reader.clone().unwrap()
+    }
+
     /// Returns the offsets of the whole window, including the count.
     pub fn range(&self) -> Range<u64>
         ensures { result ≡ range_of self.now.reader }

@@ -13,6 +13,7 @@ use Rattle.wasm_base.specs.Signed.{signed_value, signed_at, FitsBits}
 use Rattle.wasm_base.specs.Widths.{is_signed}
 use Rattle.wasm_base.specs.declared.fault.NumberKind.{NumberKind}
 use Rattle.wasm_base.specs.declared.fault.NumberKind.TheVariants.{VarU32, VarI32, VarU64, VarI64, VarS33}
+use Rattle.wasm_base.proofs.Signed.{seven_bits}
 use Rattle.wasm_encode.specs.Numbers.{septet, leb, septets_of, unsigned_bytes, signed_bytes}
 use Rattle.wasm_encode.specs.ReadsBack.{spot, Encodes}
 use Rattle.wasm_encode.proofs.Numbers.{span, leb_enough, leb_least, leb_most, rest_below}
@@ -161,26 +162,6 @@ pub unsigned_encodes : (kind : NumberKind) (features n : ℕ) → is_signed kind
 unsigned_encodes kind features n s h = record { read = λ offset later. unsigned_at_spot kind features offset n later s h }
 
 -- ---- signed numbers
-
--- seven bits a septet
-seven_bits : (n : ℕ) → 2 ^ (7 * n) ≡ 128 ^ n
-seven_bits zero = refl
-seven_bits (suc n) =
-    let e : 7 * suc n ≡ suc (suc (suc (suc (suc (suc (suc (7 * n))))))) = omega arith in
-    let s : (k : ℕ) → 2 ^ suc k ≡ 2 * 2 ^ k = λ k. pow-succ' 2 k in
-    let m : ℕ = 7 * n in
-    let h : 2 ^ suc (suc (suc (suc (suc (suc (suc m)))))) ≡ 128 * 2 ^ m =
-    omega (
-      arith,
-      s m,
-      s (suc m),
-      s (suc (suc m)),
-      s (suc (suc (suc m))),
-      s (suc (suc (suc (suc m)))),
-      s (suc (suc (suc (suc (suc m))))),
-      s (suc (suc (suc (suc (suc (suc m)))))),
-    ) in
-    ap (λ k. 2 ^ k) e ∙ h ∙ ap (λ k. 128 * k) (seven_bits n) ∙ sym (pow-succ' 128 n)
 
 value_positive : (n used : ℕ) → 2 * n + 2 ≤ 128 ^ used → signed_value n used ≡ pos n
 value_positive n used h =
