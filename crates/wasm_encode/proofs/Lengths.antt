@@ -1,13 +1,15 @@
 -- The most bytes that types have.
-use Rattle.std.proofs.Common.{ℕ, ◌≤◌, ◌<◌, ◌^◌, false, List, ◌∷◌, length, length-append, Option}
-use Rattle.std.proofs.Common.{Some, None, arith}
+use Rattle.std.proofs.Common.{ℕ, ◌+◌, ◌-◌, ◌≤◌, ◌<◌, ◌^◌, Bool, true, false, List, [], ◌∷◌, ◌++◌, length, length-append, Option}
+use Rattle.std.proofs.Common.{◌≡◌, Some, None, ap, sym, append-nil, arith, slice_index_or}
+use Rattle.std.proofs.lemmas.List.Elements.{All-cons, All-nil}
 use Rattle.wasm_encode.specs.Imports.{type_ref_bytes}
 use Rattle.wasm_encode.specs.Limits.{maybe_number, limits_bytes, table_type_bytes, memory_type_bytes, global_type_bytes}
 use Rattle.wasm_encode.specs.Limits.{tag_type_bytes, table_flags}
 use Rattle.wasm_encode.specs.Names.{name_bytes, NameFits}
 use Rattle.wasm_encode.specs.Numbers.{unsigned_bytes}
 use Rattle.wasm_encode.specs.RecGroups.{storage_bytes, field_bytes, func_bytes, FuncFits, composite_bytes, CompositeFits}
-use Rattle.wasm_encode.specs.Sections.{content_bytes}
+use Rattle.wasm_encode.specs.RecGroups.{subtype_head, subtype_bytes, SubtypeFits}
+use Rattle.wasm_encode.specs.Sections.{ListFits, content_bytes}
 use Rattle.wasm_encode.specs.Types.{heap_byte, heap_index, heap_bytes_by, heap_bytes, ref_prefix, maybe_byte, ref_bytes, val_bytes}
 use Rattle.wasm_encode.proofs.Numbers.{septets_few}
 use Rattle.wasm_items.specs.declared.imports.TypeRef.{TypeRef}
@@ -22,6 +24,7 @@ use Rattle.wasm_items.specs.declared.types.MemoryType.{MemoryType}
 use Rattle.wasm_items.specs.declared.types.RefType.{RefType}
 use Rattle.wasm_items.specs.declared.types.StorageType.{StorageType}
 use Rattle.wasm_items.specs.declared.types.StorageType.TheVariants as Storages
+use Rattle.wasm_items.specs.declared.types.SubType.{SubType}
 use Rattle.wasm_items.specs.declared.types.TableType.{TableType}
 use Rattle.wasm_items.specs.declared.types.TagType.{TagType}
 use Rattle.wasm_items.specs.declared.types.ValType.{ValType}
@@ -124,3 +127,41 @@ unfolding composite_bytes
 composite_few (Composites.Func function) h = omega (arith, func_few function h)
 composite_few (Composites.Array element) h = omega (arith, field_few element)
 composite_few (Composites.Struct fields) h = let short = h.short in omega (arith, short)
+
+head_few : (final : Bool) (supertype : Option ℕ) → length (subtype_head final supertype) ≤ 12
+head_few true None = omega arith
+head_few false None = omega arith
+head_few final (Some index) = omega (arith, septets_few false 128 index)
+
+subtype_few : (ty : SubType) → SubtypeFits ty → length (subtype_bytes ty) ≤ 2 ^ 31 + 12
+unfolding subtype_bytes
+subtype_few ty h =
+    let head = subtype_head ty.is_final ty.supertype in
+    omega (
+      arith,
+      length-append head (composite_bytes ty.composite),
+      head_few ty.is_final ty.supertype,
+      composite_few ty.composite h.composite,
+    )
+
+-- a subtype that fits is short enough for a group of its own
+pub one_type : (ty : SubType) → SubtypeFits ty → ListFits (2 ^ 32 - 1) subtype_bytes SubtypeFits (ty ∷ [])
+one_type ty h =
+    let size : length (subtype_bytes ty) ≤ 2 ^ 31 + 12 = subtype_few ty h in
+    record {
+      each = All-cons SubtypeFits ty [] h (All-nil SubtypeFits);
+      few = omega arith;
+      short = omega (
+        arith,
+        size,
+        ap length (append-nil (subtype_bytes ty)),
+        length-append (unsigned_bytes 1) (subtype_bytes ty ++ []),
+        septets_few false 128 1,
+      );
+    }
+
+-- a list of one item
+pub only_one : {T : Type 0} (xs : List T) (x : T) → 1 ≤ length xs → length xs < 2 → x ≡ slice_index_or xs 0 x → xs ≡ x ∷ []
+only_one [] x some few e = absurd (omega (arith, some))
+only_one (y ∷ []) x some few e = ap (λ z. z ∷ []) (sym e)
+only_one (y ∷ (z ∷ zs)) x some few e = absurd (omega (arith, few))

@@ -1,7 +1,7 @@
 // Groups of types: the items of the type section.
 ghost use Rattle.std.specs.Prelude.{◌≡◌, ◌+◌, ◌≤◌, ◌^◌, ◌++◌, ◌↔◌, IsTrue, drop, length, take};
 ghost use Rattle.wasm_encode.specs.Limits.{IsBelow, flag};
-ghost use Rattle.wasm_encode.specs.RecGroups.{extending_byte, is_counted, subtype_head};
+ghost use Rattle.wasm_encode.specs.RecGroups.{extending_byte, subtype_head};
 
 use crate::bytes::write_byte;
 use crate::encode::Encode;
@@ -156,6 +156,7 @@ impl Encode for CompositeType {
         }
     }
 
+    #[inline(always)]
     #[tactic(auto, unfolding(crate::specs::RecGroups::composite_bytes), using(crate::proofs::Lengths::func_few, crate::proofs::Lengths::field_few))]
     fn encoded_len(&self) -> usize {
         match self {
@@ -276,13 +277,6 @@ impl Encode for SubType {
     fn reads_back(&self) {}
 }
 
-// Returns whether a group may have this many types: one that isn't explicit has one.
-fn is_counted_so(explicit: bool, count: usize) -> bool
-    ensures { result ≡ is_counted explicit count }
-{
-    explicit || count == 1
-}
-
 impl Encode for RecGroup {
     ghost use Rattle.wasm_base.specs.Item.{ReadsAs};
     ghost use Rattle.wasm_encode.specs.RecGroups.{GroupFits, group_bytes};
@@ -299,10 +293,14 @@ impl Encode for RecGroup {
     ghost placed = { λ features offset group. group };
 
     fn fits(&self) -> bool {
-        if !is_counted_so(self.explicit, self.types.len()) {
-            return false;
+        if self.explicit {
+            return list_fits(GROUP_BOUND, self.types.as_slice());
         }
-        list_fits(GROUP_BOUND, self.types.as_slice())
+        // Its length need not be checked: the lists in one type are too short.
+        match self.types.as_slice() {
+            [ty] => ty.fits(),
+            _ => false,
+        }
     }
 
     #[tactic(auto, unfolding(crate::specs::RecGroups::group_bytes))]

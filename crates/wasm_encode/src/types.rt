@@ -158,6 +158,7 @@ impl Encode for ValType {
         }
     }
 
+    #[inline(always)]
     #[tactic(auto, unfolding(crate::specs::Types::val_bytes))]
     fn encode_at(&self, bytes: &mut [u8], at: usize) -> usize {
         match self {
