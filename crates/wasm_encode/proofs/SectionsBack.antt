@@ -9,7 +9,7 @@ use Rattle.wasm_base.specs.Window.{Place}
 use Rattle.wasm_base.specs.declared.fault.NumberKind.TheVariants.{VarU32}
 use Rattle.wasm_encode.specs.Numbers.{unsigned_bytes}
 use Rattle.wasm_encode.specs.ReadsBack.{spot}
-use Rattle.wasm_encode.specs.Sections.{items_bytes, placed_items, ItemsBack, IsReadBack}
+use Rattle.wasm_encode.specs.Sections.{content_bytes, items_bytes, placed_items, ItemsBack, IsReadBack}
 use Rattle.wasm_encode.proofs.NumbersBack.{unsigned_at_spot}
 
 items_of : {T : Type 0} (meaning : Place → Outcome T → Type 0) (features offset : ℕ) (encoded : T → List ℕ)
@@ -64,3 +64,8 @@ less_items encoded n xs =
 pub whole_items : {T : Type 0} (encoded : T → List ℕ) (n : ℕ) (xs : List T) → length xs ≤ n
     → items_bytes encoded (take n xs) ≡ items_bytes encoded xs
 whole_items encoded n xs h = ap (items_bytes encoded) (take_all n xs h)
+
+-- a list is longer than its items by its count
+pub content_longer : {T : Type 0} (encoded : T → List ℕ) (xs : List T)
+    → length (content_bytes encoded xs) ≡ length (unsigned_bytes (length xs)) + length (items_bytes encoded xs)
+content_longer encoded xs = length-append (unsigned_bytes (length xs)) (items_bytes encoded xs)

@@ -1,18 +1,22 @@
 -- What encodings are read as.
-use Rattle.std.specs.Prelude.{◌≡◌, ℕ, ◌<◌, ◌^◌, ◌↔◌, List, false, true, ℤ}
+use Rattle.std.specs.Prelude.{◌≡◌, ℕ, ◌<◌, ◌^◌, ◌↔◌, List, All, false, true, ℤ}
 use Rattle.wasm_base.specs.Item.{ReadsAs}
 use Rattle.wasm_base.specs.Number.{bits_of, unsigned_at}
 use Rattle.wasm_base.specs.Signed.{signed_at, FitsBits}
 use Rattle.wasm_base.specs.Widths.{is_signed}
 use Rattle.wasm_base.specs.declared.fault.NumberKind.{NumberKind}
 use Rattle.wasm_encode.specs.Consumed.{CopiesItsBytes}
+use Rattle.wasm_encode.specs.Imports.{TypeRefAllowed, import_bytes}
 use Rattle.wasm_encode.specs.Modules.{IsModule}
 use Rattle.wasm_encode.specs.Numbers.{unsigned_bytes, signed_bytes}
 use Rattle.wasm_encode.specs.ReadsBack.{Encodes}
+use Rattle.wasm_encode.specs.Sections.{ItemsBack}
 use Rattle.wasm_grammar.specs.Accepted.{SectionFrame}
 use Rattle.wasm_grammar.specs.FrameEvents.{TellsFrames}
 use Rattle.wasm_grammar.specs.Reading.{Event, Reading, Stream}
 use Rattle.wasm_grammar.specs.declared.encoding.Encoding.TheVariants.{Module}
+use Rattle.wasm_items.specs.Imports.{import_at, import_parts}
+use Rattle.wasm_items.specs.declared.imports.Import.{Import}
 
 -- | numbers that fit their kind are read as themselves; bytes of a number that was read are read as it
 --   wherever they are [`SignedNumbersReadBack`; `NumbersAreCopied`]
@@ -25,6 +29,14 @@ UnsignedNumbersReadBack = (kind : NumberKind) (features n : ℕ) → is_signed k
 abbrev pub SignedNumbersReadBack : Type 0
 SignedNumbersReadBack = (kind : NumberKind) (features : ℕ) (n : ℤ) → is_signed kind ≡ true → FitsBits (bits_of kind) n
     → Encodes (ReadsAs (λ (m : ℤ). m) (signed_at kind)) features (λ (offset : ℕ). n) (signed_bytes n)
+
+-- | an import section that was written is read as exactly the given imports, by readers whose features allow them
+-- The content of an import section, at any offset, is read as its count and exactly these imports, by readers whose
+-- features allow their limits.
+abbrev pub ImportsBack : List Import → Type 0
+ImportsBack imports = (features offset : ℕ) → All (λ i. TypeRefAllowed features i.ty) imports
+    → ItemsBack (ReadsAs import_parts import_at) features offset (λ i. import_bytes (import_parts i)) (λ offset i. i)
+    imports
 
 -- Copying the bytes of a number that was read writes it, also where they aren't the shortest.
 abbrev pub NumbersAreCopied : Type 0

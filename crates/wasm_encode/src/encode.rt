@@ -2,7 +2,7 @@
 ghost use Rattle.std.specs.Prelude.{◌≡◌, ℕ, ◌+◌, ◌<◌, ◌≤◌, ◌^◌, ◌++◌, ◌↔◌, IsTrue, List, drop, length, take};
 ghost use Rattle.wasm_base.specs.Outcome.{Outcome};
 ghost use Rattle.wasm_base.specs.Window.{Place};
-ghost use Rattle.wasm_encode.specs.ReadsBack.{Encodes};
+ghost use Rattle.wasm_encode.specs.Sections.{IsReadBack};
 
 /// A type whose values can be written in the binary format.
 ///
@@ -58,7 +58,6 @@ pub trait Encode {
         requires { is_encodable self.now }
         // Proved: the bytes of every item that fits are read as exactly that item, wherever they are
         //   and whatever comes after them, by readers whose features allow it [the clause of
-        //   `Encode::reads_back` (`Encodes`)]
-        ensures { (features : ℕ) → is_allowed features self.now
-            → Encodes meaning features (λ (offset : ℕ). placed features offset self.now) (encoded self.now) };
+        //   `Encode::reads_back` (`IsReadBack`)]
+        ensures { IsReadBack meaning encoded is_allowed placed self.now };
 }

@@ -55,7 +55,7 @@ pub fn expression_fits(operators: &[ConstOperator]) -> bool
     if !are_inner(operators) {
         return false;
     }
-    items_fit(operators, 1)
+    items_fit(operators, 1, 1 << 32)
 }
 
 /// Returns how many bytes `write_expression` writes of these operators, with the `end` after them.

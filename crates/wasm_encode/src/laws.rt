@@ -1,11 +1,9 @@
 //! Laws of encodings, each the contract of a function that does nothing.
-ghost use Rattle.std.specs.Prelude.{ℕ, ◌<◌, ◌^◌, All, length};
-ghost use Rattle.wasm_base.specs.Item.{ReadsAs};
+ghost use Rattle.std.specs.Prelude.{◌<◌, ◌^◌, All, length};
 ghost use Rattle.wasm_encode.specs.Frames.{NumbersAreFrames, SectionsAreFrames};
-ghost use Rattle.wasm_encode.specs.Imports.{ImportFits, TypeRefAllowed, import_bytes};
-ghost use Rattle.wasm_encode.specs.Sections.{ItemsBack};
-ghost use Rattle.wasm_items.specs.Imports.{import_at, import_parts};
-ghost use Rattle.wasm_encode.specs.Laws.{ModulesAreRead, NumbersAreCopied, SignedNumbersReadBack, UnsignedNumbersReadBack};
+ghost use Rattle.wasm_encode.specs.Imports.{ImportFits};
+ghost use Rattle.wasm_items.specs.Imports.{import_parts};
+ghost use Rattle.wasm_encode.specs.Laws.{ImportsBack, ModulesAreRead, NumbersAreCopied, SignedNumbersReadBack, UnsignedNumbersReadBack};
 
 use crate::sections::section_reads_back;
 use wasm_items::Import;
@@ -28,8 +26,7 @@ pub fn import_sections_read_back(imports: &[Import<'_>])
     requires fits { All (λ i. ImportFits (import_parts i)) imports.now }
     requires few { length imports.now < 2 ^ 32 }
     // Proved: an import section that was written is read as exactly the given imports
-    ensures { (features offset : ℕ) → All (λ i. TypeRefAllowed features i.ty) imports.now
-        → ItemsBack (ReadsAs import_parts import_at) features offset (λ i. import_bytes (import_parts i)) (λ offset i. i) imports.now }
+    ensures { ImportsBack imports.now }
 {
     section_reads_back(imports)
 }

@@ -4,6 +4,7 @@ ghost use Rattle.wasm_encode.specs.Sections.{IsReadBack, ItemsBack, ListFits, Se
 
 use crate::bytes::write_byte;
 use crate::encode::Encode;
+use crate::fitting::items_fit;
 use crate::number::{unsigned_len, write_unsigned};
 
 // The most bytes of a section's content, and one more.
@@ -73,7 +74,7 @@ pub(crate) fn write_content<T: Encode>(bytes: &mut [u8], at: usize, items: &[T])
 }
 
 // Returns whether items can be written as a list: each fits, and the count and the items have fewer bytes than a bound.
-#[tactic(auto, using(crate::proofs::Numbers::septets_few))]
+#[tactic(auto, using(crate::proofs::Numbers::septets_few, crate::proofs::SectionsBack::content_longer))]
 pub(crate) fn list_fits<T: Encode>(bound: usize, items: &[T]) -> bool
     requires some { 10 < bound }
     requires most { bound ≤ 2 ^ 32 }
@@ -82,17 +83,7 @@ pub(crate) fn list_fits<T: Encode>(bound: usize, items: &[T]) -> bool
     if items.len() > u32::MAX as usize {
         return false;
     }
-    let mut size = unsigned_len(items.len() as u64);
-    'items: for item in items {
-        if !item.fits() {
-            return false;
-        }
-        size += item.encoded_len();
-        if size >= bound {
-            return false;
-        }
-    }
-    true
+    items_fit(items, unsigned_len(items.len() as u64), bound)
 }
 
 /// Returns whether items can be written as a section: each fits, they are fewer than 2^32, and so are the bytes of the
@@ -123,7 +114,7 @@ pub fn section_fits<T: Encode>(items: &[T]) -> bool
 pub fn section_len<T: Encode>(items: &[T]) -> usize
     requires { SectionFits T.encoded T.is_encodable items.now }
     // Proved: `section_len` is how many bytes `write_section` writes
-    ensures { (id : ℕ) → result ≡ length (section_bytes T.encoded id items.now) }
+    ensures { result ≡ length (section_bytes T.encoded 0 items.now) }
 {
     let size = content_len(items);
     1 + unsigned_len(size as u64) + size
@@ -167,7 +158,7 @@ pub fn write_section<T: Encode>(bytes: &mut [u8], at: usize, id: u8, items: &[T]
 #[tactic(auto, using(crate::proofs::Numbers::septets_few))]
 pub fn number_section_len(number: u32) -> usize
     // Proved: `number_section_len` is how many bytes `write_number_section` writes
-    ensures { (id : ℕ) → result ≡ length (number_section_bytes id number) }
+    ensures { result ≡ length (number_section_bytes 0 number) }
 {
     let size = unsigned_len(u64::from(number));
     1 + unsigned_len(size as u64) + size

@@ -2,7 +2,10 @@
 use std::alloc::Global;
 use std::process::Abort;
 use wasm_base::BinaryReader;
-use wasm_encode::{Module, SectionItem, section_fits};
+use wasm_encode::{
+    Encode, Module, SectionItem, number_section_len, section_fits, section_len,
+    write_number_section, write_section,
+};
 use wasm_items::{
     Export, ExternalKind, FunctionBody, Import, ImportSection, ImportSectionReader, TagKind,
     TagType, TypeRef,
@@ -135,4 +138,33 @@ fn starts(rt: &impl Abort, alloc: Global, function: u32, wanted: &[u8]) {
 fn start_sections(rt: HostRuntime) {
     starts(&rt, rt.alloc(), 300, b"\x08\x02\xac\x02");
     starts(&rt, rt.alloc(), u32::MAX, b"\x08\x05\xff\xff\xff\xff\x0f");
+}
+
+// Items are written as this section, and no byte before or after it changes.
+fn is_written<T: Encode>(rt: &impl Abort, id: u8, items: &[T], wanted: &[u8]) {
+    assert!(rt; section_fits(items));
+    assert!(rt; wanted.len() < 60);
+    assert_eq!(rt; section_len(items), wanted.len());
+    let mut bytes = [0xaa; 64];
+    let end = write_section(&mut bytes, 3, id, items);
+    assert_eq!(rt; &bytes[3..end], wanted);
+    assert!(rt; bytes[2] == 0xaa && bytes[end] == 0xaa);
+}
+
+#[test]
+fn sections_among_other_bytes(rt: HostRuntime) {
+    is_written(&rt, 3, &[0u32, 7, 300], b"\x03\x05\x03\0\x07\xac\x02");
+    let tags = [TagType {
+        kind: TagKind::Exception,
+        func_type_idx: 3,
+    }];
+    is_written(&rt, 13, &tags, b"\x0d\x03\x01\0\x03");
+}
+
+#[test]
+fn numbers_among_other_bytes(rt: HostRuntime) {
+    assert_eq!(&rt; number_section_len(300), 4);
+    let mut bytes = [0xaa; 6];
+    assert_eq!(&rt; write_number_section(&mut bytes, 1, 12, 300), 5);
+    assert_eq!(&rt; &bytes, b"\xaa\x0c\x02\xac\x02\xaa");
 }

@@ -4,8 +4,8 @@ use Rattle.wasm_encode.specs.Sections.{items_bytes}
 use Rattle.wasm_encode.proofs.SectionsBack.{less_items, more_items}
 use Rattle.wasm_encode.proofs.fitting.items_fit.Goals as goal
 
-pub returns-then-size : goal.returns-then-size
-returns-then-size g c =
+pub returns-then-size-bound : goal.returns-then-size-bound
+returns-then-size-bound g c =
     let encoded = g.T.Encode.encoded in
     let items = c.args.items.now in
     let i = c.items.item-index in
@@ -15,7 +15,7 @@ returns-then-size g c =
       λ f. absurd (omega (
         arith,
         f.short,
-        c.if-size.true,
+        c.if-size-bound.true,
         c.encoded_len-size.ensures.len,
         c.items.invariant.size,
         ap length e,
@@ -42,5 +42,5 @@ items-preserved g c =
         ap length e,
         length-append (items_bytes encoded (take i items)) (encoded x),
       );
-      small = omega (arith, c.if-size.false);
+      small = omega (arith, c.if-size-bound.false);
     }

@@ -27,7 +27,7 @@ returns-in_err-at g c = λ frames h.
 pub write_number_section-requires : goal.write_number_section-requires
 write_number_section-requires g c = has_room c.args.self.now.bytes.items c.deref_mut.result.now
     (number_section_bytes c.args.id c.args.number) c.in_ok-at.at c.number_section_len.result
-    c.in_ok-at.ensures.0 (c.deref_mut.ensures.value ∙ c.in_ok-at.ensures.1) (c.number_section_len.ensures c.args.id)
+    c.in_ok-at.ensures.0 (c.deref_mut.ensures.value ∙ c.in_ok-at.ensures.1) c.number_section_len.ensures
 
 pub returns : goal.returns
 returns g c = λ frames h.
@@ -36,7 +36,7 @@ returns g c = λ frames h.
     let few : c.args.number < 2 ^ 32 = omega (arith, c.ranges.number.fits) in
     let bytes = at_the_end c.args.self.now.bytes.items c.deref_mut.result.now c.write_number_section.new.bytes
     (number_section_bytes c.args.id c.args.number) c.in_ok-at.at c.write_number_section.result c.number_section_len.result begins
-    (c.deref_mut.ensures.value ∙ grown) (c.number_section_len.ensures c.args.id) w.end w.written w.len in
+    (c.deref_mut.ensures.value ∙ grown) c.number_section_len.ensures w.end w.written w.len in
     let f = frame_of c.args.id (unsigned_bytes c.args.number) in
     let count = numbered c.args.id c.args.number few in
     one_more frames c.args.self.now _ c.note.new.self h f

@@ -35,7 +35,7 @@ returns-in_err-at g c = λ frames h.
 pub write_section-requires-clause-room : goal.write_section-requires-clause-room
 write_section-requires-clause-room g c = has_room c.args.self.now.bytes.items c.deref_mut.result.now
     (section_bytes g.T.Encode.encoded c.section_id-id.result c.args.items.now) c.in_ok-at.at c.section_len.result
-    c.in_ok-at.ensures.0 (c.deref_mut.ensures.value ∙ c.in_ok-at.ensures.1) (c.section_len.ensures c.section_id-id.result)
+    c.in_ok-at.ensures.0 (c.deref_mut.ensures.value ∙ c.in_ok-at.ensures.1) c.section_len.ensures
 
 pub returns : goal.returns
 returns g c = λ frames h.
@@ -44,7 +44,7 @@ returns g c = λ frames h.
     let piece = section_bytes g.T.Encode.encoded c.section_id-id.result c.args.items.now in
     let w = c.write_section.ensures in
     let bytes = at_the_end c.args.self.now.bytes.items c.deref_mut.result.now c.write_section.new.bytes piece c.in_ok-at.at
-    c.write_section.result c.section_len.result begins (c.deref_mut.ensures.value ∙ grown) (c.section_len.ensures c.section_id-id.result)
+    c.write_section.result c.section_len.result begins (c.deref_mut.ensures.value ∙ grown) c.section_len.ensures
     w.end w.written w.len in
     let f = frame_of c.section_id-id.result (content_bytes g.T.Encode.encoded c.args.items.now) in
     let count = counted g.T.Encode.encoded c.section_id-id.result c.args.items.now fit.few ∙ sym many in
