@@ -20,6 +20,7 @@ COMMANDS = {
         "pieces": ("compare_streams:chunks", "chunked streams, and each step of a feeder"),
         "pipe": ("compare_streams:pipe", "a stream that comes byte by byte through a pipe, line by line"),
         "strip": ("compare_streams:strip", "stripped streams, also with wasm-strip of wabt"),
+        "writing": ("compare_writing", "modules that are written again, and random ones, with the models and Node"),
         "surface": ("compare_surface", "the public items of the crate for Rust with those of wasmparser 0.263.0"),
     },
     "try": {
