@@ -47,7 +47,7 @@ global_encodes x features h = record {
 
 -- ---- whether bytes are an expression
 
-nil_of : (xs : List ℕ) → length xs ≡ 0 → xs ≡ []
+pub nil_of : (xs : List ℕ) → length xs ≡ 0 → xs ≡ []
 nil_of [] h = refl
 nil_of (x ∷ xs) h = absurd (omega arith)
 

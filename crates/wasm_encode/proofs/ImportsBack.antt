@@ -34,7 +34,7 @@ use Rattle.wasm_items.specs.declared.imports.TypeRef.TheVariants as Refs
 pub reads_u32 : (n features : ℕ) → n < 2 ^ 32 → Reads (unsigned_at VarU32) features n (unsigned_bytes n)
 reads_u32 n features h = record { at = λ offset later. unsigned_at_spot VarU32 features offset n later refl h }
 
-reads_kind : (kind : ExternalKind) (features : ℕ) → Reads kind_at features kind (kind_byte kind ∷ [])
+pub reads_kind : (kind : ExternalKind) (features : ℕ) → Reads kind_at features kind (kind_byte kind ∷ [])
 unfolding in_table
 reads_kind Kinds.Func features = record { at = λ offset later. refl }
 reads_kind Kinds.Table features = record { at = λ offset later. refl }

@@ -15,6 +15,8 @@ pub mod GlobalsBack
 pub mod CodeBack
 pub mod DataBack
 pub mod ExpressionsBack
+pub mod ElementsBack
+pub mod ListsBack
 pub mod OperatorsBack
 pub mod SegmentsBack
 pub mod TablesBack

@@ -13,6 +13,8 @@ pub mod Globals
 pub mod Code
 pub mod Data
 pub mod Expressions
+pub mod Elements
+pub mod Lists
 pub mod Fitting
 pub mod Operators
 pub mod Tables

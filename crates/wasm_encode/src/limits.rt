@@ -16,10 +16,10 @@ fn flag_of(is_set: bool, weight: u8) -> u8
     if is_set { weight } else { 0 }
 }
 
-// Returns how many bytes a number has, if there is one.
+/// Returns how many bytes a number has, if there is one.
 #[tactic(auto, using(crate::proofs::Numbers::septets_few))]
 #[inline(always)]
-fn maybe_len(number: Option<u64>) -> usize
+pub(crate) fn maybe_len(number: Option<u64>) -> usize
     ensures len { result ≡ length (maybe_number number) }
     ensures most { result ≤ 10 }
 {
@@ -29,9 +29,9 @@ fn maybe_len(number: Option<u64>) -> usize
     }
 }
 
-// Writes a number, if there is one.
+/// Writes a number, if there is one.
 #[inline(always)]
-fn write_maybe_number(bytes: &mut [u8], at: usize, number: Option<u64>) -> usize
+pub(crate) fn write_maybe_number(bytes: &mut [u8], at: usize, number: Option<u64>) -> usize
     requires { at + length (maybe_number number) ≤ length bytes.old }
     ensures end { result ≡ at + length (maybe_number number) }
     ensures written { take result bytes.new ≡ take at bytes.old ++ maybe_number number }

@@ -2,6 +2,7 @@
 ghost use Rattle.std.specs.Prelude.{◌≡◌, ◌<◌, ◌^◌};
 ghost use Rattle.wasm_encode.specs.Code.{BodyFits, body_bytes};
 ghost use Rattle.wasm_encode.specs.Data.{DataFits, data_bytes};
+ghost use Rattle.wasm_encode.specs.Elements.{ElementFits, element_bytes};
 ghost use Rattle.wasm_encode.specs.Globals.{GlobalFits, global_bytes};
 ghost use Rattle.wasm_encode.specs.Imports.{ExportFits, ImportFits, export_bytes, import_bytes};
 ghost use Rattle.wasm_encode.specs.Limits.{MemoryFits, memory_type_bytes, tag_type_bytes};
@@ -14,11 +15,11 @@ ghost use Rattle.wasm_items.specs.Imports.{import_parts};
 
 use crate::modules::SectionItem;
 use wasm_grammar::{
-    CODE_SECTION, DATA_SECTION, EXPORT_SECTION, FUNCTION_SECTION, GLOBAL_SECTION, IMPORT_SECTION,
-    MEMORY_SECTION, TABLE_SECTION, TAG_SECTION, TYPE_SECTION,
+    CODE_SECTION, DATA_SECTION, ELEMENT_SECTION, EXPORT_SECTION, FUNCTION_SECTION, GLOBAL_SECTION,
+    IMPORT_SECTION, MEMORY_SECTION, TABLE_SECTION, TAG_SECTION, TYPE_SECTION,
 };
 use wasm_items::{
-    Data, Export, FunctionBody, Global, Import, MemoryType, RecGroup, Table, TagType,
+    Data, Element, Export, FunctionBody, Global, Import, MemoryType, RecGroup, Table, TagType,
 };
 
 impl SectionItem for RecGroup {
@@ -106,6 +107,17 @@ impl<'a> SectionItem for Export<'a> {
         ensures frames { MakesFrames (λ x. export_bytes (export_parts x)) (λ x. ExportFits (export_parts x)) result }
     {
         EXPORT_SECTION
+    }
+}
+
+impl<'a> SectionItem for Element<'a> {
+    ghost section = { 9 };
+
+    fn section_id() -> u8
+        ensures id { result ≡ 9 }
+        ensures frames { MakesFrames element_bytes ElementFits result }
+    {
+        ELEMENT_SECTION
     }
 }
 

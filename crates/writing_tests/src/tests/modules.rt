@@ -2,9 +2,12 @@
 use std::alloc::Global;
 use std::process::Abort;
 use test_devices::Sparing;
-use wasm_base::BinaryReader;
+use wasm_base::{BinaryReader, SectionLimited};
 use wasm_encode::{Module, Refused, Unfinished};
-use wasm_items::{Data, DataKind, Export, ExternalKind, FunctionBody, Import, MemoryType, TypeRef};
+use wasm_items::{
+    Data, DataKind, Element, ElementItems, ElementKind, Export, ExternalKind, FunctionBody, Import,
+    MemoryType, TypeRef,
+};
 
 const HEADER: &[u8] = b"\0asm\x01\0\0\0";
 
@@ -89,6 +92,19 @@ fn a_module(rt: HostRuntime) {
         rest = rest.get(part.len()..).unwrap_or(b"");
     }
     assert!(&rt; rest.is_empty());
+}
+
+#[test]
+fn a_module_with_elements(rt: HostRuntime) {
+    let mut module = empty(&rt, rt.alloc());
+    let reader = BinaryReader::new(b"\x05\x06", 0);
+    let segment = Element {
+        kind: ElementKind::Declared,
+        items: ElementItems::Functions(SectionLimited::after_count(reader, 2)),
+        range: 0..0,
+    };
+    assert_eq!(&rt; module.section(&[segment]), Ok(()));
+    ends_as(&rt, module, b"\x09\x06\x01\x03\0\x02\x05\x06");
 }
 
 #[test]
