@@ -132,8 +132,8 @@ kind_read flags (Active (Some table) init) items is h features offset later =
       unsigned_at_spot VarU32 features offset table (bytes ++ later) refl h.index,
       copied init h.offset features there later,
     )
-    (at_end features (there + length bytes) (offset + length (index ++ bytes)) (λ k. Active (Some table) (expression_placed features k init))
-    there there later refl (omega (arith, length-append index bytes)))
+    (at_end features (there + length bytes) (offset + length (index ++ bytes))
+    (λ k. Active (Some table) (expression_placed features k init)) there there later refl (omega (arith, length-append index bytes)))
 
 -- ---- the elements
 
@@ -183,8 +183,8 @@ expressions_read flags true ty expressions is h spelled features offset later =
       (reads_ref ty features h.heap).at offset (list ++ later),
       list_back end_of_expression expressions_copy expressions h.list features there later,
     )
-    (at_end features (there + length list) (offset + length (first ++ list)) (λ k. Expressions ty (list_placed features k expressions)) there
-    there later refl (omega (arith, length-append first list)))
+    (at_end features (there + length list) (offset + length (first ++ list))
+    (λ k. Expressions ty (list_placed features k expressions)) there there later refl (omega (arith, length-append first list)))
 expressions_read flags false ty expressions is h spelled features offset later =
     let list : List ℕ = list_bytes expressions in
     rw (is, list_back end_of_expression expressions_copy expressions h.list features offset later, spelled)
