@@ -65,7 +65,7 @@ impl<'a> Again<'a> {
             Payload::TagSection(section) => self.add(section.into_iter()),
             Payload::GlobalSection(section) => self.add(section.into_iter()),
             Payload::ExportSection(section) => self.add(section.into_iter()),
-            Payload::ElementSection(_) => Err(Left::Other("elements")),
+            Payload::ElementSection(section) => self.add(section.into_iter()),
             Payload::DataSection(section) => self.add(section.into_iter()),
             Payload::StartSection { func, .. } => self.module.start(func).map_err(|refused| Left::Refused(format!("{refused:?}"))),
             Payload::DataCountSection { count, .. } => self.module.data_count(count).map_err(|refused| Left::Refused(format!("{refused:?}"))),
