@@ -40,6 +40,8 @@ mod composites;
 mod cores;
 mod custom;
 mod edits;
+#[cfg(feature = "alloc")]
+pub mod encoder;
 mod error;
 mod fault;
 mod flags;

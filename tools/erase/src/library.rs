@@ -1,5 +1,5 @@
-//! What the crate `pulleynavy` takes of the proved sources: the parser of frames, the readers of items, and edits in memory, all of which need no
-//! allocator.
+//! What the crate `pulleynavy` takes of the proved sources: the parser of frames, the readers and writers of items, and edits in memory, all of which need
+//! no allocator.
 use crate::crates::{Erased, Sources, write_core};
 use crate::leaving::Gone;
 use crate::rules::module_of;
@@ -7,7 +7,17 @@ use crate::text::Text;
 use crate::{Fault, honesty};
 use std::path::Path;
 
-const CRATES: [&str; 8] = ["wasm_base", "wasm_grammar", "wasm_frames", "wasm_items", "wasm_custom", "wasm_io", "wasm_streams", "wasm_edits"];
+const CRATES: [&str; 9] = [
+    "wasm_base",
+    "wasm_grammar",
+    "wasm_frames",
+    "wasm_items",
+    "wasm_custom",
+    "wasm_encode",
+    "wasm_io",
+    "wasm_streams",
+    "wasm_edits",
+];
 
 /// Of these crates only these files are taken.
 const TAKEN: [(&str, &[&str]); 3] = [
@@ -37,7 +47,7 @@ pub fn write(top: &Path, folder: &Path) -> Result<(), String> {
 }
 
 /// The crates that the crate takes something of.
-pub fn crates() -> [&'static str; 8] {
+pub fn crates() -> [&'static str; 9] {
     CRATES
 }
 
