@@ -175,7 +175,7 @@ bytes_back f p t later =
       drop-append_seam t later,
     ) refl
 
-bytes_copies : (n : ℕ) → Copies (λ start. bytes_at n)
+pub bytes_copies : (n : ℕ) → Copies (λ start. bytes_at n)
 bytes_copies n = record { at = λ s f o bytes x q e. by f o bytes x q (nat_lt (length bytes) n) refl e }
   where
     by : (f o : ℕ) (bytes x : List ℕ) (q : Place) (t : Bool) → nat_lt (length bytes) n ≡ t
@@ -265,7 +265,7 @@ heap_by s f o (b ∷ bs) x q e = by (abstract_heap_of b) refl e
               };
             }
 
-heap_copies : Copies (λ start. heap_type_at)
+pub heap_copies : Copies (λ start. heap_type_at)
 heap_copies = record { at = λ s f o bytes x q e. heap_by s f o bytes x q e }
 
 -- ---- instructions

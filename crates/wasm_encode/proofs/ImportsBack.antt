@@ -55,7 +55,7 @@ unfolding type_ref_at
 kind_then kind ty features bytes r =
     reads_then kind_at type_of_kind_at features kind ty (kind_byte kind ∷ []) bytes (reads_kind kind features) r
 
-reads_type_ref : (ty : TypeRef) (features : ℕ) → TypeRefFits ty → TypeRefAllowed features ty
+pub reads_type_ref : (ty : TypeRef) (features : ℕ) → TypeRefFits ty → TypeRefAllowed features ty
     → Reads type_ref_at features ty (type_ref_bytes ty)
 unfolding type_ref_bytes
 reads_type_ref (Refs.Func index) features h a = kind_then Kinds.Func (Refs.Func index) features (unsigned_bytes index)

@@ -17,6 +17,8 @@ pub mod DataBack
 pub mod ExpressionsBack
 pub mod ElementsBack
 pub mod ListsBack
+pub mod Moves
+pub mod BundlesBack
 pub mod OperatorsBack
 pub mod SegmentsBack
 pub mod TablesBack

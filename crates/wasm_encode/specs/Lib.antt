@@ -15,6 +15,7 @@ pub mod Data
 pub mod Expressions
 pub mod Elements
 pub mod Lists
+pub mod Bundles
 pub mod Fitting
 pub mod Operators
 pub mod Tables

@@ -17,6 +17,7 @@
 //! ```
 #![tactic(auto)]
 
+mod bundles;
 mod bytes;
 mod code;
 mod custom;

@@ -45,9 +45,9 @@ pub enum Unfinished {
 
 /// A type whose values are the items of a section: its content is a count, and as many such items.
 ///
-/// These are types (`RecGroup`), imports (`Import`), functions (`u32`, the index of the type of each), tables (`Table`),
-/// memories (`MemoryType`), tags (`TagType`), globals (`Global`), exports (`Export`), elements (`Element`), code
-/// (`FunctionBody`) and data (`Data`).
+/// These are types (`RecGroup`), imports (`Import`, or with bundles `Imports`), functions (`u32`, the index of the type of
+/// each), tables (`Table`), memories (`MemoryType`), tags (`TagType`), globals (`Global`), exports (`Export`), elements
+/// (`Element`), code (`FunctionBody`) and data (`Data`).
 ///
 /// (Core specification, Binary format, Modules.)
 pub trait SectionItem: Encode {

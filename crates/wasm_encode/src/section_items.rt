@@ -1,5 +1,6 @@
 // Which section has which items (core specification, Binary format, Modules).
 ghost use Rattle.std.specs.Prelude.{◌≡◌, ◌<◌, ◌^◌};
+ghost use Rattle.wasm_encode.specs.Bundles.{BundleFits, bundle_bytes};
 ghost use Rattle.wasm_encode.specs.Code.{BodyFits, body_bytes};
 ghost use Rattle.wasm_encode.specs.Data.{DataFits, data_bytes};
 ghost use Rattle.wasm_encode.specs.Elements.{ElementFits, element_bytes};
@@ -11,7 +12,7 @@ ghost use Rattle.wasm_encode.specs.Numbers.{unsigned_bytes};
 ghost use Rattle.wasm_encode.specs.RecGroups.{GroupFits, group_bytes};
 ghost use Rattle.wasm_encode.specs.Tables.{TableItemFits, table_bytes};
 ghost use Rattle.wasm_items.specs.Exports.{export_parts};
-ghost use Rattle.wasm_items.specs.Imports.{import_parts};
+ghost use Rattle.wasm_items.specs.Imports.{bundle_parts, import_parts};
 
 use crate::modules::SectionItem;
 use wasm_grammar::{
@@ -19,7 +20,8 @@ use wasm_grammar::{
     IMPORT_SECTION, MEMORY_SECTION, TABLE_SECTION, TAG_SECTION, TYPE_SECTION,
 };
 use wasm_items::{
-    Data, Element, Export, FunctionBody, Global, Import, MemoryType, RecGroup, Table, TagType,
+    Data, Element, Export, FunctionBody, Global, Import, Imports, MemoryType, RecGroup, Table,
+    TagType,
 };
 
 impl SectionItem for RecGroup {
@@ -39,6 +41,17 @@ impl<'a> SectionItem for Import<'a> {
     fn section_id() -> u8
         ensures id { result ≡ 2 }
         ensures frames { MakesFrames (λ i. import_bytes (import_parts i)) (λ i. ImportFits (import_parts i)) result }
+    {
+        IMPORT_SECTION
+    }
+}
+
+impl<'a> SectionItem for Imports<'a> {
+    ghost section = { 2 };
+
+    fn section_id() -> u8
+        ensures id { result ≡ 2 }
+        ensures frames { MakesFrames (λ i. bundle_bytes (bundle_parts i)) (λ i. BundleFits (bundle_parts i)) result }
     {
         IMPORT_SECTION
     }

@@ -1,4 +1,5 @@
 // Bytes that were worked out by hand from the standard's grammar. That they are read back is proved.
+mod bundles;
 mod elements;
 mod expressions;
 mod groups;
