@@ -51,6 +51,7 @@ COMMANDS = {
         "tables": ("tables", "instructions and times on made files"),
         "files": ("files", "times or instructions of the programs on whole files, next to other tools"),
         "scaling": ("files:scaling", "how time and memory grow with a file, and what more processes gain"),
+        "writing": ("bench_writing", "instructions of writing one item, next to a short program in C"),
         "inlining": ("inlining", "instructions if functions are inlined otherwise, without proofs"),
     },
 }

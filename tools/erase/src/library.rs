@@ -7,17 +7,7 @@ use crate::text::Text;
 use crate::{Fault, honesty};
 use std::path::Path;
 
-const CRATES: [&str; 9] = [
-    "wasm_base",
-    "wasm_grammar",
-    "wasm_frames",
-    "wasm_items",
-    "wasm_custom",
-    "wasm_encode",
-    "wasm_io",
-    "wasm_streams",
-    "wasm_edits",
-];
+const CRATES: [&str; 9] = ["wasm_base", "wasm_grammar", "wasm_frames", "wasm_items", "wasm_custom", "wasm_encode", "wasm_io", "wasm_streams", "wasm_edits"];
 
 /// Of these crates only these files are taken.
 const TAKEN: [(&str, &[&str]); 3] = [
