@@ -1,8 +1,7 @@
 -- The bytes of bundles of imports are read as the bundles.
 use Rattle.std.proofs.Common.{◌≡◌, ℕ, ◌+◌, ◌==◌, Bool, true, false, cond, List, [], ◌∷◌, ◌++◌, length, Ok}
-use Rattle.std.proofs.Common.{arith, ap, sym, ◌∙◌, refl, subst, append_assoc, length-append}
+use Rattle.std.proofs.Common.{arith, ap, ◌∙◌, refl, subst, append_assoc, length-append}
 use Rattle.std.specs.Str.{chars, is_utf8}
-use Rattle.wasm_base.specs.Features.{takes_wide_limits}
 use Rattle.wasm_base.specs.Item.{ReadsAs}
 use Rattle.wasm_base.specs.Leading.{lookup_or}
 use Rattle.wasm_base.specs.Outcome.{Outcome}
@@ -17,9 +16,10 @@ use Rattle.wasm_encode.specs.Lists.{list_bytes, list_placed}
 use Rattle.wasm_encode.specs.Names.{NameFits, name_bytes}
 use Rattle.wasm_encode.specs.Numbers.{unsigned_bytes}
 use Rattle.wasm_encode.specs.ReadsBack.{spot, Encodes}
+use Rattle.wasm_encode.proofs.CopiedTypes.{copies_item, same_limits}
+use Rattle.wasm_encode.proofs.Copies.{Same}
 use Rattle.wasm_encode.proofs.ImportsBack.{reads_type_ref}
-use Rattle.wasm_encode.proofs.ListsBack.{list_back}
-use Rattle.wasm_encode.proofs.Moves.{item_moves, name_moves}
+use Rattle.wasm_encode.proofs.ListsBack.{copies_name, kept_list, list_back}
 use Rattle.wasm_encode.proofs.NamesBack.{reads_name}
 use Rattle.wasm_items.specs.Imports.{Bundle, ImportParts, bundle_parts, import_parts, single, of_module, of_type, skipped_item_at}
 use Rattle.wasm_items.specs.Imports.{bundle_after_names, bundle_at, module_bundle_at, single_at, type_bundle_at, type_ref_at}
@@ -118,11 +118,8 @@ module_list : (features there : ℕ) (from later : List ℕ) (items : Section) �
     ≡ Ok (of_module from (list_placed features (there + 1) items), spot features (there + 1 + length (list_bytes items)) later)
 unfolding module_bundle_at
 module_list features there from later items a =
-    let moves = item_moves (λ f g. f ≡ g) (λ f g e. ap takes_wide_limits (sym e)) in
-    rw (
-      a.bundles,
-      list_back (λ f g. f ≡ g) skipped_item_at moves (for_features features items) a.list features refl (there + 1) later,
-    ) refl
+    let copies = copies_item Same same_limits in
+    rw (a.bundles, kept_list Same skipped_item_at copies (for_features features items) features (there + 1) later refl a.list) refl
 
 type_list : (features there : ℕ) (from later : List ℕ) (ty : TypeRef) (names : Section) → ModuleTypeFits from ty names
     → ModuleTypeAllowed features ty
@@ -136,8 +133,7 @@ type_list features there from later ty names h a =
     rw (
       a.bundles,
       (reads_type_ref ty features h.ty_fits a.ty_allowed).at (there + 1) (list_bytes names ++ later),
-      list_back (λ f g. Unit {0}) skipped_name_at (name_moves (λ f g. Unit {0})) names h.list features tt
-          (there + 1 + length (type_ref_bytes ty)) later,
+      list_back skipped_name_at copies_name names features (there + 1 + length (type_ref_bytes ty)) later h.list,
     ) refl
 
 -- the same bundle, whose list is at an offset, and the same place after it

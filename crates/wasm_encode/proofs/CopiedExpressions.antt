@@ -8,7 +8,7 @@ use Rattle.std.proofs.lemmas.List.{take-append-drop, length-take}
 use Rattle.std.proofs.Math.Seq.{take-append_seam, drop-append_seam}
 use Rattle.wasm_base.proofs.NumberLaws.{number-more, number-used}
 use Rattle.wasm_base.proofs.OwnBytes.{same_read}
-use Rattle.wasm_base.specs.FaultAt.{FaultAt, at_offset}
+use Rattle.wasm_base.specs.FaultAt.{at_offset}
 use Rattle.wasm_base.specs.Float.{u64_at}
 use Rattle.wasm_base.specs.Name.{bytes_at, of_four, u32_at}
 use Rattle.wasm_base.specs.Number.{Number, read, bad, short, number, in_window, unsigned_at}
@@ -19,8 +19,10 @@ use Rattle.wasm_base.specs.declared.fault.Fault.TheVariants.{UnexpectedEof, NotC
 use Rattle.wasm_base.specs.declared.fault.NumberKind.{NumberKind}
 use Rattle.wasm_base.specs.declared.fault.NumberKind.TheVariants.{VarU32, VarS33}
 use Rattle.wasm_encode.specs.ReadsBack.{spot}
+pub use Rattle.wasm_encode.proofs.Moves.{Copies, either, in_turn, nothing}
+use Rattle.wasm_encode.proofs.Moves.{Any, Moved, fails}
 use Rattle.wasm_encode.proofs.NumbersBack.{unsigned_read, signed_read}
-use Rattle.wasm_encode.proofs.Readings.{Reads, reads_then, reads_nothing, same_spot}
+use Rattle.wasm_encode.proofs.Readings.{Reads, same_spot}
 use Rattle.wasm_items.proofs.Expressions.{end_or_instruction}
 use Rattle.wasm_items.specs.Init.{Operands, done, signed, float_32, float_64, raw, u32_index, heap, operands_at, constant_operands_at}
 use Rattle.wasm_items.specs.Init.{numbered_operands_at, aggregate_operands_of, vector_operands_of, operands_of, after_opcode}
@@ -29,63 +31,9 @@ use Rattle.wasm_items.specs.Values.{abstract_heap_of, type_index, heap_type_from
 use Rattle.wasm_items.specs.declared.init.ConstOperator.{ConstOperator}
 use Rattle.wasm_items.specs.declared.types.HeapType.{HeapType}
 
--- What was read by a reading that knows a start: the bytes that it consumed are read as the same from every start.
-pub record From {A : Type 0} (reading : ℕ → Place → Outcome A) (features offset : ℕ) (bytes : List ℕ) (x : A) (q : Place) : Type 0 where
-  pub taken : List ℕ
-  pub rest : List ℕ
-  pub split : bytes ≡ taken ++ rest
-  pub after : q ≡ spot features (offset + length taken) rest
-  pub reads : (start any : ℕ) → Reads (reading start) any x taken
-
-pub record Copies {A : Type 0} (reading : ℕ → Place → Outcome A) : Type 0 where
-  pub at : (start features offset : ℕ) (bytes : List ℕ) (x : A) (q : Place) → reading start (spot features offset bytes) ≡ Ok (x, q)
-      → From reading features offset bytes x q
-
-pub nothing : {A : Type 0} (x : A) → Copies (λ start p. Ok (x, p))
-nothing x = record {
-  at = λ start f o bytes y q e. let s = same_read x y (spot f o bytes) q e in record {
-    taken = [];
-    rest = bytes;
-    split = refl;
-    after = sym s.1 ∙ here f o bytes;
-    reads = λ t g. subst (λ z. Reads (λ p. Ok (x, p)) g z []) s.0 (reads_nothing g x);
-  };
-}
-  where
-    here : (f o : ℕ) (bytes : List ℕ) → spot f o bytes ≡ spot f (o + 0) bytes
-    here f o bytes = let e : o ≡ o + 0 = omega arith in ap (λ (k : ℕ). spot f k bytes) e
-
-fails : {A : Type 0} (fault : ℕ → FaultAt) → Copies {A = A} (λ start p. Err (fault start))
-fails fault = record { at = λ start f o bytes x q e. absurd (let z = e in cc) }
-
-pub in_turn : {A B : Type 0} (first : ℕ → Place → Outcome A) (next : ℕ → A → Place → Outcome B) → Copies first
-    → ((a : A) → Copies (λ start. next start a)) → Copies (λ start p. first start p >>= λ r. next start r.0 r.1)
-in_turn {A} {B} first next one two = record { at = λ s f o bytes x q e. by s f o bytes x q (first s (spot f o bytes)) refl e }
-  where
-    by : (s f o : ℕ) (bytes : List ℕ) (x : B) (q : Place) (r : Outcome A) → first s (spot f o bytes) ≡ r
-        → (r >>= λ z. next s z.0 z.1) ≡ Ok (x, q) → From (λ start p. first start p >>= λ z. next start z.0 z.1) f o bytes x q
-    by s f o bytes x q (Err g) is e = cc
-    by s f o bytes x q (Ok r) is e =
-        let a = one.at s f o bytes r.0 r.1 is in
-        let there : next s r.0 (spot f (o + length a.taken) a.rest) ≡ Ok (x, q) =
-        subst (λ (p : Place). next s r.0 p ≡ Ok (x, q)) a.after e in
-        let b = (two r.0).at s f (o + length a.taken) a.rest x q there in
-        let n : o + length a.taken + length b.taken ≡ o + length (a.taken ++ b.taken) = omega (arith, length-append a.taken b.taken) in
-        record {
-          taken = a.taken ++ b.taken;
-          rest = b.rest;
-          split = a.split ∙ (ap (λ (bs : List ℕ). a.taken ++ bs) b.split ∙ sym (append_assoc a.taken b.taken b.rest));
-          after = b.after ∙ ap (λ (k : ℕ). spot f k b.rest) n;
-          reads = λ t g. reads_then (first t) (next t) g r.0 x a.taken b.taken (a.reads t g) (b.reads t g);
-        }
-
-either : {A : Type 0} (b : Bool) (f g : ℕ → Place → Outcome A) → Copies f → Copies g → Copies (λ start p. cond b (f start p) (g start p))
-either true f g one other = one
-either false f g one other = other
-
 -- a number, which has a byte at least
 record Numbered {A : Type 0} (reading : ℕ → Place → Outcome A) (f o : ℕ) (bytes : List ℕ) (x : A) (q : Place) : Type 0 where
-  from : From reading f o bytes x q
+  from : Moved Any reading f o bytes x q
   some : 0 < length from.taken
 
 numbered : (kind : NumberKind) (s f o : ℕ) (bytes : List ℕ) (x : ℕ) (q : Place) → unsigned_at kind (spot f o bytes) ≡ Ok (x, q)
@@ -125,7 +73,7 @@ unsigned kind = record {
         rest = drop k bytes;
         split = sym (take-append-drop k bytes);
         after = n.3 ∙ ap (λ (j : ℕ). spot f (o + j) (drop k bytes)) (sym l);
-        reads = λ t g. record { at = λ p later. unsigned_read kind g p x (take k bytes) later (again kind bytes later x k n.2).2 };
+        reads = λ t g any. record { at = λ p later. unsigned_read kind g p x (take k bytes) later (again kind bytes later x k n.2).2 };
       };
 }
 
@@ -154,7 +102,7 @@ signed_numbered kind s f o bytes x q e = by (unsigned_at kind (spot f o bytes)) 
             rest = drop k bytes;
             split = sym (take-append-drop k bytes);
             after = sym z.1 ∙ n.3 ∙ ap (λ (j : ℕ). spot f (o + j) (drop k bytes)) (sym l);
-            reads = λ t g. record {
+            reads = λ t g any. record {
               at = λ p later.
                   signed_read kind g p r.0 x (take k bytes) later (again kind bytes later r.0 k n.2).2 v;
             };
@@ -181,7 +129,7 @@ bytes_copies n = record { at = λ s f o bytes x q e. by f o bytes x q (nat_lt (l
     by : (f o : ℕ) (bytes x : List ℕ) (q : Place) (t : Bool) → nat_lt (length bytes) n ≡ t
         → (let r : Outcome (List ℕ) = cond t (Err (at_offset UnexpectedEof o))
         (Ok (take n bytes, advanced n (spot f o bytes))) in r) ≡ Ok (x, q)
-        → From (λ start. bytes_at n) f o bytes x q
+        → Moved Any (λ start. bytes_at n) f o bytes x q
     by f o bytes x q true is e = cc
     by f o bytes x q false is e =
         let z = same_read (take n bytes) x (advanced n (spot f o bytes)) q e in
@@ -192,7 +140,7 @@ bytes_copies n = record { at = λ s f o bytes x q e. by f o bytes x q (nat_lt (l
           rest = drop n bytes;
           split = sym (take-append-drop n bytes);
           after = sym z.1 ∙ ap (λ (j : ℕ). spot f (o + j) (drop n bytes)) (sym l);
-          reads = λ t g. record {
+          reads = λ t g any. record {
             at = λ p later.
                 ap (λ (m : ℕ). bytes_at m (spot g p (take n bytes ++ later))) (sym l) ∙ bytes_back g p (take n bytes) later
                 ∙ ap (λ (y : List ℕ). Ok (y, spot g (p + length (take n bytes)) later)) z.0;
@@ -224,13 +172,13 @@ unfolding heap_type_at
 concrete f p b ts later z x q none s i = rw (none, s) i
 
 heap_by : (s f o : ℕ) (bytes : List ℕ) (x : HeapType) (q : Place) → heap_type_at (spot f o bytes) ≡ Ok (x, q)
-    → From (λ start. heap_type_at) f o bytes x q
+    → Moved Any (λ start. heap_type_at) f o bytes x q
 unfolding heap_type_at
 heap_by s f o [] x q e = cc
 heap_by s f o (b ∷ bs) x q e = by (abstract_heap_of b) refl e
   where
     by : (h : Option HeapType) → abstract_heap_of b ≡ h → heap_type_from b (spot f o (b ∷ bs)) h ≡ Ok (x, q)
-        → From (λ start. heap_type_at) f o (b ∷ bs) x q
+        → Moved Any (λ start. heap_type_at) f o (b ∷ bs) x q
     by (Some h) is e =
         let z = same_read h x (advanced 1 (spot f o (b ∷ bs))) q e in
         record {
@@ -238,12 +186,12 @@ heap_by s f o (b ∷ bs) x q e = by (abstract_heap_of b) refl e
           rest = bs;
           split = refl;
           after = sym z.1;
-          reads = λ t g. record { at = λ p later. rw (is, z.0) refl };
+          reads = λ t g any. record { at = λ p later. rw (is, z.0) refl };
         }
     by None is e = signed_type (signed_at VarS33 (spot f o (b ∷ bs))) refl e
       where
         signed_type : (r : Outcome ℤ) → signed_at VarS33 (spot f o (b ∷ bs)) ≡ r → (r >>= λ i. type_index b o i) ≡ Ok (x, q)
-            → From (λ start. heap_type_at) f o (b ∷ bs) x q
+            → Moved Any (λ start. heap_type_at) f o (b ∷ bs) x q
         signed_type (Err g) at e = cc
         signed_type (Ok r) at e =
             let n = signed_numbered VarS33 s f o (b ∷ bs) r.0 r.1 at in
@@ -255,13 +203,13 @@ heap_by s f o (b ∷ bs) x q e = by (abstract_heap_of b) refl e
               rest = a.rest;
               split = a.split;
               after = sym i.0 ∙ a.after;
-              reads = λ t g. record {
+              reads = λ t g any. record {
                 at = λ p later.
                     let q' : Place = spot g (p + length a.taken) later in
                     let w : a.taken ++ later ≡ b ∷ (head.0 ++ later) = ap (λ (xs : List ℕ). xs ++ later) head.1 in
                     subst (λ (xs : List ℕ). heap_type_at (spot g p xs) ≡ Ok (x, q')) (sym w)
                     (concrete g p b head.0 later r.0 x q' is
-                    (subst (λ (xs : List ℕ). signed_at VarS33 (spot g p xs) ≡ Ok (r.0, q')) w ((a.reads t g).at p later)) (i.1 b p q'));
+                    (subst (λ (xs : List ℕ). signed_at VarS33 (spot g p xs) ≡ Ok (r.0, q')) w ((a.reads t g tt).at p later)) (i.1 b p q'));
               };
             }
 
@@ -349,7 +297,7 @@ step most f o b bs q ih false is e = by (after_opcode o b (spot f (o + 1) bs)) r
                 let n : p + 1 + length a.taken + length c.taken ≡ p + length (b ∷ (a.taken ++ c.taken)) =
                 omega (arith, length-append a.taken c.taken) in
                 end_or_instruction (spot g p (b ∷ ((a.taken ++ c.taken) ++ later)))
-                ∙ rw (is, append_assoc a.taken c.taken later, (a.reads p g).at (p + 1) (c.taken ++ later))
+                ∙ rw (is, append_assoc a.taken c.taken later, (a.reads p g tt).at (p + 1) (c.taken ++ later))
                 ((c.reads g).at (p + 1 + length a.taken) later
                 ∙ same_spot g (p + 1 + length a.taken + length c.taken) (p + length (b ∷ (a.taken ++ c.taken))) tt later n);
           };

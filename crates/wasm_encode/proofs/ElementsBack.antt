@@ -1,7 +1,7 @@
 -- The bytes of element segments are read as the segments.
 use Rattle.std.proofs.Common.{◌≡◌, ℕ, ◌+◌, ◌≤◌, Bool, true, false, List, ◌∷◌, ◌++◌, length, Some, None, Ok}
 use Rattle.std.proofs.Common.{arith, ap, ◌∙◌, refl, append_assoc, length-append}
-use Rattle.wasm_base.specs.Inner.{after_reading, inner_section_at}
+use Rattle.wasm_base.specs.Inner.{after_reading}
 use Rattle.wasm_base.specs.Item.{ReadsAs}
 use Rattle.wasm_base.specs.Number.{unsigned_at}
 use Rattle.wasm_base.specs.Outcome.{Outcome}
@@ -11,15 +11,14 @@ use Rattle.wasm_encode.specs.Elements.{ElementFits, ElementsFit, IsSpelled, Kind
 use Rattle.wasm_encode.specs.Elements.{element_bytes, element_placed, elements_bytes, elements_flag, elements_placed}
 use Rattle.wasm_encode.specs.Elements.{has_type, kind_bytes, kind_flags, kind_placed, list_of, type_bytes}
 use Rattle.wasm_encode.specs.Expressions.{expression_bytes, expression_placed}
-use Rattle.wasm_encode.specs.Lists.{IsList, list_bytes, list_items, list_placed}
+use Rattle.wasm_encode.specs.Lists.{list_bytes, list_placed}
 use Rattle.wasm_encode.specs.Numbers.{unsigned_bytes}
 use Rattle.wasm_encode.specs.ReadsBack.{spot, Encodes}
 use Rattle.wasm_encode.specs.Types.{ref_bytes}
+use Rattle.wasm_encode.proofs.CopiedExpressions.{Copies, unsigned}
 use Rattle.wasm_encode.proofs.ExpressionsBack.{copied}
 use Rattle.wasm_encode.proofs.ImportsBack.{reads_kind}
-use Rattle.wasm_encode.proofs.ListsBack.{list_back}
-use Rattle.wasm_encode.proofs.Moves.{expressions_moves, numbers_moves}
-use Rattle.wasm_encode.proofs.Numbers.{septets_few}
+use Rattle.wasm_encode.proofs.ListsBack.{copies_expression, copies_skip, list_back}
 use Rattle.wasm_encode.proofs.NumbersBack.{unsigned_at_spot}
 use Rattle.wasm_encode.proofs.SegmentsBack.{flags_back}
 use Rattle.wasm_encode.proofs.TypesBack.{reads_ref}
@@ -35,22 +34,13 @@ use Rattle.wasm_items.specs.declared.elements.ElementKind.TheVariants.{Passive, 
 use Rattle.wasm_items.specs.declared.exports.ExternalKind.TheVariants.{Func}
 use Rattle.wasm_items.specs.declared.types.RefType.{RefType}
 
--- A list is its items and at most ten bytes.
-pub list_few : (list : Section) → length (list_bytes list) ≤ length (list_items list) + 10
-list_few list = omega (arith, length-append (unsigned_bytes list.count) (list_items list), septets_few false 128 list.count)
-
--- The items are no more than the whole segment.
-pub items_few : (x : Element) → length (list_items (list_of x.items)) ≤ length (element_bytes x)
+-- The list of a segment has no more bytes than the segment.
+pub list_few : (x : Element) → length (list_bytes (list_of x.items)) ≤ length (element_bytes x)
 unfolding element_bytes
-items_few x =
+list_few x =
     let ty : List ℕ = type_bytes (has_type x.kind) x.items in
-    let list : Section = list_of x.items in
-    omega (
-      arith,
-      length-append (kind_bytes x.kind) (ty ++ list_bytes list),
-      length-append ty (list_bytes list),
-      length-append (unsigned_bytes list.count) (list_items list),
-    )
+    let list : List ℕ = list_bytes (list_of x.items) in
+    omega (arith, length-append (kind_bytes x.kind) (ty ++ list), length-append ty list)
 
 -- ---- flags
 
@@ -138,20 +128,13 @@ kind_read flags (Active (Some table) init) items is h features offset later =
 
 -- ---- the elements
 
-functions_back : (list : Section) → IsList (after_reading (unsigned_at VarU32)) list → (features offset : ℕ) (later : List ℕ)
-    → inner_section_at (after_reading (unsigned_at VarU32)) (spot features offset (list_bytes list ++ later))
-    ≡ Ok (list_placed features offset list, spot features (offset + length (list_bytes list)) later)
-functions_back list h features = list_back (λ f g. Unit {0}) _ (numbers_moves _) list h features tt
-
-expressions_back : (list : Section) → IsList end_of_expression list → (features offset : ℕ) (later : List ℕ)
-    → inner_section_at end_of_expression (spot features offset (list_bytes list ++ later))
-    ≡ Ok (list_placed features offset list, spot features (offset + length (list_bytes list)) later)
-expressions_back list h features = list_back (λ f g. Unit {0}) _ (expressions_moves _) list h features tt
-
 functions_kind : (features offset : ℕ) (later : List ℕ)
     → skipped_element_kind_at (spot features offset (0x00 ∷ later)) ≡ Ok (tt, spot features (offset + 1) later)
 unfolding skipped_element_kind_at
 functions_kind features offset later = rw ((reads_kind Func features).at offset later) refl
+
+copies_indices : Copies (λ s. after_reading (unsigned_at VarU32))
+copies_indices = copies_skip (unsigned_at VarU32) (unsigned VarU32)
 
 functions_read : (flags : ℕ) (typed : Bool) (indices : Section) → is_typed flags ≡ typed → ElementsFit (Functions indices)
     → (features offset : ℕ) (later : List ℕ)
@@ -166,13 +149,13 @@ functions_read flags true indices is h features offset later =
     rw (
       is,
       functions_kind features offset (list ++ later),
-      functions_back indices h features (offset + 1) later,
+      list_back (after_reading (unsigned_at VarU32)) copies_indices indices features (offset + 1) later h,
     )
     (at_end features (offset + 1 + length list) (offset + length (0x00 ∷ list)) (λ k. Functions (list_placed features k indices))
     (offset + 1) (offset + 1) later refl (omega arith))
 functions_read flags false indices is h features offset later =
     let list : List ℕ = list_bytes indices in
-    rw (is, functions_back indices h features offset later)
+    rw (is, list_back (after_reading (unsigned_at VarU32)) copies_indices indices features offset later h)
     (at_end features (offset + length list) (offset + length list) (λ k. Functions (list_placed features k indices)) offset (offset + 0)
     later (omega arith) refl)
 
@@ -192,13 +175,13 @@ expressions_read flags true ty expressions is h spelled features offset later =
       is,
       append_assoc first list later,
       (reads_ref ty features h.heap).at offset (list ++ later),
-      expressions_back expressions h.list features there later,
+      list_back end_of_expression copies_expression expressions features there later h.list,
     )
     (at_end features (there + length list) (offset + length (first ++ list))
     (λ k. Expressions ty (list_placed features k expressions)) there there later refl (omega (arith, length-append first list)))
 expressions_read flags false ty expressions is h spelled features offset later =
     let list : List ℕ = list_bytes expressions in
-    rw (is, expressions_back expressions h.list features offset later, spelled)
+    rw (is, list_back end_of_expression copies_expression expressions features offset later h.list, spelled)
     (at_end features (offset + length list) (offset + length list) (λ k. Expressions funcref (list_placed features k expressions)) offset
     (offset + 0) later (omega arith) refl)
 

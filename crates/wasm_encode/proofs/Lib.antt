@@ -18,6 +18,7 @@ pub mod ExpressionsBack
 pub mod ElementsBack
 pub mod ListsBack
 pub mod Moves
+pub mod CopiedTypes
 pub mod BundlesBack
 pub mod OperatorsBack
 pub mod SegmentsBack

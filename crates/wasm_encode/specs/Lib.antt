@@ -16,6 +16,7 @@ pub mod Expressions
 pub mod Elements
 pub mod Lists
 pub mod Bundles
+pub mod Copied
 pub mod Fitting
 pub mod Operators
 pub mod Tables

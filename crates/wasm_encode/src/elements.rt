@@ -3,14 +3,14 @@ ghost use Rattle.std.specs.Prelude.{◌≡◌, ℕ, ◌+◌, ◌≤◌, ◌<◌,
 ghost use Rattle.wasm_encode.specs.Elements.{ElementsFit, IsSpelled, KindFits, element_bytes, elements_bytes};
 ghost use Rattle.wasm_encode.specs.Elements.{elements_flag, has_type, kind_bytes, kind_flags, list_of, type_bytes};
 ghost use Rattle.wasm_encode.specs.Limits.{IsBelow};
-ghost use Rattle.wasm_encode.specs.Lists.{list_bytes, list_items};
+ghost use Rattle.wasm_encode.specs.Lists.{list_bytes};
 
 use crate::bytes::{write_byte, write_bytes};
 use crate::encode::Encode;
 use crate::expressions::bytes_of;
 use crate::globals::is_expression;
 use crate::limits::{maybe_len, write_maybe_number};
-use crate::lists::{is_list, is_list_of_numbers, items_of, list_len, write_list};
+use crate::lists::{is_list, is_list_of_numbers, list_len, write_list};
 use wasm_items::{Element, ElementItems, ElementKind, RefType};
 
 // Returns whether the index of a table is a number of 32 bits, as it always is.
@@ -188,16 +188,6 @@ fn write_type(bytes: &mut [u8], at: usize, typed: bool, items: &ElementItems<'_>
     }
 }
 
-// Returns how many bytes the items of a list have.
-fn items_len(items: &ElementItems<'_>) -> usize
-    ensures { result ≡ length (list_items (list_of items.now)) }
-{
-    match items {
-        ElementItems::Functions(indices) => items_of(indices).len(),
-        ElementItems::Expressions(_, expressions) => items_of(expressions).len(),
-    }
-}
-
 // Returns how many bytes the list of elements has.
 fn elements_len(items: &ElementItems<'_>) -> usize
     ensures { result ≡ length (list_bytes (list_of items.now)) }
@@ -223,10 +213,10 @@ fn write_elements(bytes: &mut [u8], at: usize, items: &ElementItems<'_>) -> usiz
 }
 
 // Returns how many bytes a segment has.
-#[tactic(auto, unfolding(crate::specs::Elements::element_bytes), using(crate::proofs::ElementsBack::list_few))]
+#[tactic(auto, unfolding(crate::specs::Elements::element_bytes))]
 fn element_len(segment: &Element<'_>) -> usize
     requires fits { ElementsFit segment.now.items }
-    requires few { length (list_items (list_of segment.now.items)) < 2 ^ 32 }
+    requires few { length (list_bytes (list_of segment.now.items)) < 2 ^ 32 }
     ensures { result ≡ length (element_bytes segment.now) }
 {
     let typed = has_type(&segment.kind);
@@ -248,7 +238,7 @@ impl<'a> Encode for Element<'a> {
 
     ghost placed = { element_placed };
 
-    #[tactic(auto, using(crate::proofs::ElementsBack::items_few))]
+    #[tactic(auto, using(crate::proofs::ElementsBack::list_few))]
     fn fits(&self) -> bool {
         if !kind_fits(&self.kind) {
             return false;
@@ -259,13 +249,13 @@ impl<'a> Encode for Element<'a> {
         if !is_spelled(has_type(&self.kind), &self.items) {
             return false;
         }
-        if items_len(&self.items) > u32::MAX as usize {
+        if elements_len(&self.items) > u32::MAX as usize {
             return false;
         }
         element_len(self) <= u32::MAX as usize
     }
 
-    #[tactic(auto, using(crate::proofs::ElementsBack::items_few))]
+    #[tactic(auto, using(crate::proofs::ElementsBack::list_few))]
     fn encoded_len(&self) -> usize {
         element_len(self)
     }

@@ -20,6 +20,7 @@
 mod bundles;
 mod bytes;
 mod code;
+mod copied;
 mod custom;
 mod data;
 mod elements;
@@ -44,6 +45,7 @@ mod tables;
 mod types;
 
 pub use code::code_sections_are_frames;
+pub use copied::types_are_copied;
 pub use custom::{custom_fits, custom_len, write_custom};
 pub use encode::Encode;
 pub use expressions::{expression_fits, expression_len, expression_reads_back, write_expression};

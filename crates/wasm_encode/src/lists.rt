@@ -1,10 +1,10 @@
-// Lists inside an item, which it has as sections (core specification, Binary format, Conventions, Lists).
+// Lists inside items, which are written by their bytes.
 ghost use Rattle.std.specs.Prelude.{◌≡◌, ◌+◌, ◌≤◌, ◌<◌, ◌^◌, ◌++◌, ◌↔◌, IsTrue, drop, length, take};
 ghost use Rattle.wasm_base.specs.Inner.{after_reading, all_skipped_at};
 ghost use Rattle.wasm_base.specs.Number.{unsigned_at};
 ghost use Rattle.wasm_base.specs.Outcome.{GivesBy};
 ghost use Rattle.wasm_base.specs.declared.fault.NumberKind.TheVariants.{VarU32};
-ghost use Rattle.wasm_encode.specs.Lists.{IsList, list_bytes, list_items};
+ghost use Rattle.wasm_encode.specs.Lists.{IsList, list_bytes};
 
 use crate::bytes::write_bytes;
 use crate::number::{unsigned_len, write_unsigned};
@@ -21,8 +21,7 @@ fn skip_items<'a, T: SkipItem<'a>>(count: u32, reader: &mut BinaryReader<'a>) ->
     Ok(())
 }
 
-/// Returns whether a list has as many items as it counts, and no bytes after them.
-#[tactic(auto, using(crate::proofs::ListsBack::list_fault))]
+/// Returns whether a list has as many items as it announces, and nothing after them.
 pub(crate) fn is_list<'a, T: SkipItem<'a>>(list: &SectionLimited<'a, T>) -> bool
     ensures { IsTrue result ↔ IsList T.skipped_at list.now }
 {
@@ -33,8 +32,7 @@ pub(crate) fn is_list<'a, T: SkipItem<'a>>(list: &SectionLimited<'a, T>) -> bool
     }
 }
 
-/// Returns whether a list has as many numbers as it counts, and no bytes after them.
-#[tactic(auto, using(crate::proofs::ListsBack::list_fault))]
+/// Returns whether a list has as many numbers as it announces, and nothing after them.
 pub(crate) fn is_list_of_numbers(list: &SectionLimited<'_, u32>) -> bool
     ensures { IsTrue result ↔ IsList (after_reading (unsigned_at VarU32)) list.now }
 {
@@ -45,23 +43,16 @@ pub(crate) fn is_list_of_numbers(list: &SectionLimited<'_, u32>) -> bool
     }
 }
 
-/// Returns the bytes of a list after its count.
-pub(crate) fn items_of<'a, T>(list: &SectionLimited<'a, T>) -> &'a [u8]
-    ensures { result.now ≡ list_items list.now }
-{
-    list.get_binary_reader().remaining_buffer()
-}
-
-/// Returns how many bytes a list has.
+/// Returns how many bytes a list has: its count and its items.
 #[tactic(auto, using(crate::proofs::Numbers::septets_few))]
 pub(crate) fn list_len<T>(list: &SectionLimited<'_, T>) -> usize
     ensures len { result ≡ length (list_bytes list.now) }
     ensures most { result < 2 ^ 63 + 10 }
 {
-    unsigned_len(u64::from(list.count())) + items_of(list).len()
+    unsigned_len(u64::from(list.count())) + list.get_binary_reader().remaining_buffer().len()
 }
 
-/// Writes a list at the index `at`, and returns the index after it.
+/// Writes a list at the index `at`, its count and its items, and returns the index after it.
 #[tactic(auto, using(crate::proofs::RestStays::stays_on))]
 pub(crate) fn write_list<T>(bytes: &mut [u8], at: usize, list: &SectionLimited<'_, T>) -> usize
     requires { at + length (list_bytes list.now) ≤ length bytes.old }
@@ -71,5 +62,9 @@ pub(crate) fn write_list<T>(bytes: &mut [u8], at: usize, list: &SectionLimited<'
     ensures len { length bytes.new ≡ length bytes.old }
 {
     let after_count = write_unsigned(bytes, at, u64::from(list.count()));
-    write_bytes(bytes, after_count, items_of(list))
+    write_bytes(
+        bytes,
+        after_count,
+        list.get_binary_reader().remaining_buffer(),
+    )
 }

@@ -11,6 +11,5 @@ returns-in_err-skip_item g c =
     c.in_err-skip_item.ensures.gives)
 
 pub items-preserved : goal.items-preserved
-items-preserved g c =
-    one_passed g.T.SkipItem.skipped_at c.args.count c.items.counter (place c.items.reader) (place c.skip_item.new.reader) _
-    c.items-test.true c.items.invariant (search rules)
+items-preserved g c = one_passed g.T.SkipItem.skipped_at c.args.count c.items.counter (place c.items.reader)
+    (place c.skip_item.new.reader) _ c.items-test.true c.items.invariant (search rules)
