@@ -71,6 +71,15 @@ pub trait SectionItem: Encode {
 /// was.
 ///
 /// ```rattle
+/// let body = FunctionBody::new(BinaryReader::new(b"\0\x0b", 0));
+/// let mut module = Module::new(alloc)?;
+/// assert_eq!(rt; module.section(&[3u32]), Ok(()));
+/// assert_eq!(rt; module.section(&[Export { name: "run", kind: ExternalKind::Func, index: 0 }]), Ok(()));
+/// assert_eq!(rt; module.section(&[body]), Ok(()));
+/// assert!(rt; module.finish().is_ok());
+/// ```
+///
+/// ```rattle
 /// let mut module = Module::new(alloc)?;
 /// assert_eq!(rt; module.section(&[3u32]), Ok(()));
 /// assert_eq!(rt; module.start(0), Ok(()));
