@@ -30,3 +30,12 @@ pub mod Growing
 pub mod Adding
 pub mod CustomBack
 pub mod ReadModules
+pub mod TextsBack
+pub mod NamingsBack
+pub mod TargetFeaturesBack
+pub mod ProducersBack
+pub mod BranchHintsBack
+pub mod Dylink0Back
+pub mod SubsectionsBack
+pub mod RelocBack
+pub mod LinkingBack

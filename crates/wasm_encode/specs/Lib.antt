@@ -22,3 +22,12 @@ pub mod Operators
 pub mod Tables
 pub mod Custom
 pub mod Modules
+pub mod Texts
+pub mod Namings
+pub mod TargetFeatures
+pub mod Producers
+pub mod BranchHints
+pub mod Dylink0
+pub mod Subsections
+pub mod Reloc
+pub mod Linking

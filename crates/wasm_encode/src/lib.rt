@@ -17,12 +17,14 @@
 //! ```
 #![tactic(auto)]
 
+mod branch_hints;
 mod bundles;
 mod bytes;
 mod code;
 mod copied;
 mod custom;
 mod data;
+mod dylink0;
 mod elements;
 mod encode;
 mod exports;
@@ -33,15 +35,22 @@ mod imports;
 mod indices;
 pub mod laws;
 mod limits;
+mod linking;
 mod lists;
 mod modules;
 mod names;
+mod namings;
 mod number;
 mod operators;
+mod producers;
 mod rec_groups;
+mod reloc;
 mod section_items;
 mod sections;
+mod subsections;
 mod tables;
+mod target_features;
+mod texts;
 mod types;
 
 pub use code::code_sections_are_frames;
@@ -56,3 +65,4 @@ pub use sections::{
     items_read_back, number_section_len, section_fits, section_len, section_reads_back,
     write_number_section, write_section,
 };
+pub use subsections::{list_reads_back, subsection_len, subsection_reads_back, write_subsection};

@@ -4,10 +4,13 @@ mod elements;
 mod expressions;
 mod groups;
 mod items;
+mod linkers;
 mod modules;
+mod names;
 mod numbers;
 mod sections;
 mod segments;
+mod tools;
 mod types;
 
 use std::process::Abort;

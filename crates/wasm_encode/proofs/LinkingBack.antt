@@ -1,0 +1,77 @@
+-- The bytes of what a linker reads are read as it.
+use Rattle.std.proofs.Common.{ℕ, ◌<◌, ◌^◌, [], ◌∷◌, ◌++◌, None, Ok, refl}
+use Rattle.wasm_base.specs.Item.{ReadsAs}
+use Rattle.wasm_base.specs.Leading.{in_table}
+use Rattle.wasm_base.specs.Name.{text_at}
+use Rattle.wasm_base.specs.Number.{unsigned_at}
+use Rattle.wasm_base.specs.Outcome.{◌>>=◌}
+use Rattle.wasm_base.specs.declared.fault.NumberKind.TheVariants.{VarU32}
+use Rattle.wasm_custom.specs.Linking.{SegmentParts, comdat_kind_at, comdat_symbol_at, init_function_at, segment_at, segment_parts}
+use Rattle.wasm_custom.specs.declared.linking.ComdatSymbol.{ComdatSymbol}
+use Rattle.wasm_custom.specs.declared.linking.ComdatSymbolKind.{ComdatSymbolKind}
+use Rattle.wasm_custom.specs.declared.linking.ComdatSymbolKind.TheVariants as Kinds
+use Rattle.wasm_custom.specs.declared.linking.InitFunc.{InitFunc}
+use Rattle.wasm_custom.specs.declared.linking.Segment.{Segment}
+use Rattle.wasm_encode.specs.Linking.{InitFunctionFits, SegmentFits, comdat_kind_byte, comdat_symbol_bytes}
+use Rattle.wasm_encode.specs.Linking.{init_function_bytes, segment_bytes}
+use Rattle.wasm_encode.specs.Names.{name_bytes}
+use Rattle.wasm_encode.specs.Numbers.{unsigned_bytes}
+use Rattle.wasm_encode.specs.ReadsBack.{Encodes}
+use Rattle.wasm_encode.proofs.ImportsBack.{reads_u32}
+use Rattle.wasm_encode.proofs.Readings.{Reads, encodes_so, reads_as, reads_then}
+use Rattle.wasm_encode.proofs.TextsBack.{reads_text}
+
+reads_segment : (x : SegmentParts) (features : ℕ) → SegmentFits x → Reads segment_at features x (segment_bytes x)
+unfolding segment_at segment_bytes
+reads_segment x features h =
+    reads_then (text_at None)
+    (λ name p. unsigned_at VarU32 p >>= λ alignment. unsigned_at VarU32 alignment.1 >>= λ flags.
+    Ok (record { name = name; alignment = alignment.0; flags = flags.0 }, flags.1))
+    features x.name x (name_bytes x.name) (unsigned_bytes x.alignment ++ unsigned_bytes x.flags) (reads_text x.name features h.name)
+    (reads_then (unsigned_at VarU32)
+    (λ alignment p. unsigned_at VarU32 p >>= λ flags. Ok (record { name = x.name; alignment = alignment; flags = flags.0 }, flags.1))
+    features x.alignment x (unsigned_bytes x.alignment) (unsigned_bytes x.flags) (reads_u32 x.alignment features h.alignment)
+    (reads_as (unsigned_at VarU32) (λ flags. record { name = x.name; alignment = x.alignment; flags = flags }) features x.flags
+    (unsigned_bytes x.flags) (reads_u32 x.flags features h.flags)))
+
+pub segment_encodes : (x : Segment) (features : ℕ) → SegmentFits (segment_parts x)
+    → Encodes (ReadsAs segment_parts segment_at) features (λ (offset : ℕ). x) (segment_bytes (segment_parts x))
+segment_encodes x features h =
+    encodes_so segment_parts segment_at features x (segment_bytes (segment_parts x)) (reads_segment (segment_parts x) features h)
+
+reads_init_function : (x : InitFunc) (features : ℕ) → InitFunctionFits x → Reads init_function_at features x (init_function_bytes x)
+unfolding init_function_at init_function_bytes
+reads_init_function x features h =
+    reads_then (unsigned_at VarU32)
+    (λ priority p. unsigned_at VarU32 p >>= λ symbol. Ok (record { priority = priority; symbol_index = symbol.0 }, symbol.1))
+    features x.priority x (unsigned_bytes x.priority) (unsigned_bytes x.symbol_index) (reads_u32 x.priority features h.priority)
+    (reads_as (unsigned_at VarU32) (λ symbol. record { priority = x.priority; symbol_index = symbol }) features x.symbol_index
+    (unsigned_bytes x.symbol_index) (reads_u32 x.symbol_index features h.symbol))
+
+pub init_function_encodes : (x : InitFunc) (features : ℕ) → InitFunctionFits x
+    → Encodes (ReadsAs (λ (y : InitFunc). y) init_function_at) features (λ (offset : ℕ). x) (init_function_bytes x)
+init_function_encodes x features h =
+    encodes_so (λ y. y) init_function_at features x (init_function_bytes x) (reads_init_function x features h)
+
+reads_comdat_kind : (kind : ComdatSymbolKind) (features : ℕ) → Reads comdat_kind_at features kind (comdat_kind_byte kind ∷ [])
+unfolding in_table
+reads_comdat_kind Kinds.Data features = record { at = λ offset later. refl }
+reads_comdat_kind Kinds.Func features = record { at = λ offset later. refl }
+reads_comdat_kind Kinds.Global features = record { at = λ offset later. refl }
+reads_comdat_kind Kinds.Event features = record { at = λ offset later. refl }
+reads_comdat_kind Kinds.Table features = record { at = λ offset later. refl }
+reads_comdat_kind Kinds.Section features = record { at = λ offset later. refl }
+
+reads_comdat_symbol : (x : ComdatSymbol) (features : ℕ) → x.index < 2 ^ 32 → Reads comdat_symbol_at features x (comdat_symbol_bytes x)
+unfolding comdat_symbol_at comdat_symbol_bytes
+reads_comdat_symbol x features h =
+    reads_then comdat_kind_at
+    (λ kind p. unsigned_at VarU32 p >>= λ index. Ok (record { kind = kind; index = index.0 }, index.1))
+    features x.kind x (comdat_kind_byte x.kind ∷ []) (unsigned_bytes x.index) (reads_comdat_kind x.kind features)
+    (reads_as (unsigned_at VarU32) (λ index. record { kind = x.kind; index = index }) features x.index (unsigned_bytes x.index)
+    (reads_u32 x.index features h))
+
+pub comdat_symbol_encodes : (x : ComdatSymbol) (features : ℕ) → x.index < 2 ^ 32
+    → Encodes (ReadsAs (λ (y : ComdatSymbol). y) comdat_symbol_at) features (λ (offset : ℕ). x) (comdat_symbol_bytes x)
+comdat_symbol_encodes x features h =
+    encodes_so (λ y. y) comdat_symbol_at features x (comdat_symbol_bytes x) (reads_comdat_symbol x features h)

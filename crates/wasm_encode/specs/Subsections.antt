@@ -1,0 +1,65 @@
+-- The bytes of subsections. Core specification, Appendix, Custom Sections, Name Section, Subsections; tool conventions,
+-- Linking, Linking Metadata Section.
+use Rattle.std.specs.Prelude.{◌≡◌, ℕ, ◌+◌, ◌<◌, List, [], ◌∷◌, ◌++◌, length, Ok, All}
+use Rattle.wasm_base.specs.Outcome.{Outcome}
+use Rattle.wasm_base.specs.Subsections.{subsection_at}
+use Rattle.wasm_base.specs.Window.{Place, Window, window_over}
+use Rattle.wasm_encode.specs.Numbers.{unsigned_bytes}
+use Rattle.wasm_encode.specs.ReadsBack.{spot}
+use Rattle.wasm_encode.specs.Sections.{ItemsBack, content_bytes}
+
+-- | a subsection: its id, the size of its content, and its content, as a section has them <Appendix, Name Section,
+--   Subsections; tool conventions, Linking>
+-- A section of counted items is such bytes, of their content: subsections are framed as sections are.
+abbrev pub subsection_bytes : (id : ℕ) (content : List ℕ) → List ℕ
+subsection_bytes id content = id ∷ (unsigned_bytes (length content) ++ content)
+
+-- where the content is of a subsection at an offset
+abbrev pub content_offset : (offset : ℕ) (content : List ℕ) → ℕ
+content_offset offset content = offset + 1 + length (unsigned_bytes (length content))
+
+-- the window of the content of a subsection at an offset
+abbrev pub content_window : (features offset : ℕ) (content : List ℕ) → Window
+content_window features offset content = window_over features (content_offset offset content) content
+
+-- | these bytes at an offset are read as a subsection with this id and the window of this content, whatever comes after
+--   them [`content_window`] <Appendix, Name Section, Subsections>
+-- A subsection at an offset is read as its id and the window of its content, whatever comes after it.
+pub record IsSubsection (features offset id : ℕ) (content : List ℕ) : Type 0 where
+  pub read : (later : List ℕ) → subsection_at (spot features offset (subsection_bytes id content ++ later))
+      ≡ Ok (
+        (id, content_window features offset content),
+        spot features (offset + length (subsection_bytes id content)) later,
+      )
+
+-- The subsection of an item is read as its id and a window, and the window as the item, with nothing after it.
+pub record ItemBack {T : Type 0} (meaning : Place → Outcome T → Type 0) (features offset id : ℕ) (encoded : T → List ℕ)
+    (placed : ℕ → T → T) (x : T) : Type 0 where
+  pub frame : IsSubsection features offset id (encoded x)
+  pub item : meaning (spot features (content_offset offset (encoded x)) (encoded x))
+      (Ok (
+        placed (content_offset offset (encoded x)) x,
+        spot features (content_offset offset (encoded x) + length (encoded x)) [],
+      ))
+
+-- The subsection of counted items is read as its id and a window, and the window as these items, with nothing after
+-- them.
+pub record ListBack {T : Type 0} (meaning : Place → Outcome T → Type 0) (features offset id : ℕ) (encoded : T → List ℕ)
+    (placed : ℕ → T → T) (xs : List T) : Type 0 where
+  pub frame : IsSubsection features offset id (content_bytes encoded xs)
+  pub items : ItemsBack meaning features (content_offset offset (content_bytes encoded xs)) encoded placed xs
+
+-- | a subsection is read as its id and a window, and the window as the item, or the items, that were written
+--   [`ItemBack`; `ListReadsBack`, `ListBack`]
+-- The subsection of an item is read as it, at every offset and with every id below 128, by readers that allow the item.
+abbrev pub ItemReadsBack : {T : Type 0} → (Place → Outcome T → Type 0) → (is_allowed : ℕ → T → Type 0)
+    → (encoded : T → List ℕ) → (placed : ℕ → ℕ → T → T) → T → Type 0
+ItemReadsBack meaning is_allowed encoded placed x = (features offset id : ℕ) → id < 128 → is_allowed features x
+    → ItemBack meaning features offset id encoded (placed features) x
+
+-- The subsection of counted items is read as them, at every offset and with every id below 128, by readers that allow
+-- each item.
+abbrev pub ListReadsBack : {T : Type 0} → (Place → Outcome T → Type 0) → (is_allowed : ℕ → T → Type 0)
+    → (encoded : T → List ℕ) → (placed : ℕ → ℕ → T → T) → List T → Type 0
+ListReadsBack meaning is_allowed encoded placed xs = (features offset id : ℕ) → id < 128 → All (is_allowed features) xs
+    → ListBack meaning features offset id encoded (placed features) xs
