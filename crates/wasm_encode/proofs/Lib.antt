@@ -39,3 +39,5 @@ pub mod Dylink0Back
 pub mod SubsectionsBack
 pub mod RelocBack
 pub mod LinkingBack
+pub mod SymbolsBack
+pub mod ListsBack

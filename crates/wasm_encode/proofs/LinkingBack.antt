@@ -1,24 +1,33 @@
 -- The bytes of what a linker reads are read as it.
-use Rattle.std.proofs.Common.{ℕ, ◌<◌, ◌^◌, [], ◌∷◌, ◌++◌, None, Ok, refl}
+use Rattle.std.proofs.Common.{◌≡◌, ℕ, ◌+◌, ◌<◌, ◌^◌, List, [], ◌∷◌, ◌++◌, None, Ok, append_assoc, arith, length, length-append, refl}
+use Rattle.wasm_base.specs.Inner.{after_reading}
 use Rattle.wasm_base.specs.Item.{ReadsAs}
 use Rattle.wasm_base.specs.Leading.{in_table}
 use Rattle.wasm_base.specs.Name.{text_at}
 use Rattle.wasm_base.specs.Number.{unsigned_at}
 use Rattle.wasm_base.specs.Outcome.{◌>>=◌}
+use Rattle.wasm_base.specs.declared.fault.Lead.TheVariants as Leads
 use Rattle.wasm_base.specs.declared.fault.NumberKind.TheVariants.{VarU32}
-use Rattle.wasm_custom.specs.Linking.{SegmentParts, comdat_kind_at, comdat_symbol_at, init_function_at, segment_at, segment_parts}
+use Rattle.wasm_custom.specs.Linking.{SegmentParts, comdat_at, comdat_kind_at, comdat_kinds, comdat_parts, comdat_symbol_at}
+use Rattle.wasm_custom.specs.Linking.{init_function_at, segment_at, segment_parts}
+use Rattle.wasm_custom.specs.declared.linking.Comdat.{Comdat}
 use Rattle.wasm_custom.specs.declared.linking.ComdatSymbol.{ComdatSymbol}
 use Rattle.wasm_custom.specs.declared.linking.ComdatSymbolKind.{ComdatSymbolKind}
 use Rattle.wasm_custom.specs.declared.linking.ComdatSymbolKind.TheVariants as Kinds
 use Rattle.wasm_custom.specs.declared.linking.InitFunc.{InitFunc}
 use Rattle.wasm_custom.specs.declared.linking.Segment.{Segment}
-use Rattle.wasm_encode.specs.Linking.{InitFunctionFits, SegmentFits, comdat_kind_byte, comdat_symbol_bytes}
+use Rattle.wasm_encode.specs.Linking.{ComdatFits, InitFunctionFits, SegmentFits, comdat_bytes, comdat_kind_byte, comdat_placed}
+use Rattle.wasm_encode.specs.Linking.{comdat_symbol_bytes}
 use Rattle.wasm_encode.specs.Linking.{init_function_bytes, segment_bytes}
+use Rattle.wasm_encode.specs.Lists.{list_bytes}
 use Rattle.wasm_encode.specs.Names.{name_bytes}
 use Rattle.wasm_encode.specs.Numbers.{unsigned_bytes}
 use Rattle.wasm_encode.specs.ReadsBack.{Encodes}
+use Rattle.wasm_encode.proofs.CopiedExpressions.{Copies, in_turn, nothing, unsigned}
 use Rattle.wasm_encode.proofs.ImportsBack.{reads_u32}
-use Rattle.wasm_encode.proofs.Readings.{Reads, encodes_so, reads_as, reads_then}
+use Rattle.wasm_encode.proofs.ListsBack.{copies_skip, copies_table, list_back}
+use Rattle.wasm_encode.proofs.NumbersBack.{unsigned_at_spot}
+use Rattle.wasm_encode.proofs.Readings.{Reads, encodes_so, reads_as, reads_then, same_spot}
 use Rattle.wasm_encode.proofs.TextsBack.{reads_text}
 
 reads_segment : (x : SegmentParts) (features : ℕ) → SegmentFits x → Reads segment_at features x (segment_bytes x)
@@ -75,3 +84,34 @@ pub comdat_symbol_encodes : (x : ComdatSymbol) (features : ℕ) → x.index < 2 
     → Encodes (ReadsAs (λ (y : ComdatSymbol). y) comdat_symbol_at) features (λ (offset : ℕ). x) (comdat_symbol_bytes x)
 comdat_symbol_encodes x features h =
     encodes_so (λ y. y) comdat_symbol_at features x (comdat_symbol_bytes x) (reads_comdat_symbol x features h)
+
+copies_comdat_symbol : Copies (λ start. comdat_symbol_at)
+unfolding comdat_symbol_at
+copies_comdat_symbol = in_turn (λ s. comdat_kind_at)
+    (λ s kind p. unsigned_at VarU32 p >>= λ index. Ok (record { kind = kind; index = index.0 }, index.1))
+    (copies_table Leads.ComdatSymbol comdat_kinds)
+    (λ kind. in_turn (λ s. unsigned_at VarU32) (λ s index p. Ok (record { kind = kind; index = index }, p)) (unsigned VarU32)
+    (λ index. nothing (record { kind = kind; index = index })))
+
+pub comdat_encodes : (x : Comdat) (features : ℕ) → ComdatFits (comdat_parts x)
+    → Encodes (ReadsAs comdat_parts comdat_at) features (λ (offset : ℕ). comdat_placed features offset x) (comdat_bytes (comdat_parts x))
+unfolding comdat_at comdat_bytes
+comdat_encodes x features h = record {
+  read = λ offset later.
+      let name : List ℕ = name_bytes x.name.now in
+      let flags : List ℕ = unsigned_bytes x.flags in
+      let symbols : List ℕ = list_bytes x.symbols in
+      let there : ℕ = offset + length name + length flags in
+      let e : there + length symbols ≡ offset + length (name ++ (flags ++ symbols)) =
+      omega (arith, length-append name (flags ++ symbols), length-append flags symbols) in
+      rw (
+        append_assoc name (flags ++ symbols) later,
+        append_assoc flags symbols later,
+        (reads_text x.name.now features h.name).at offset (flags ++ (symbols ++ later)),
+        unsigned_at_spot VarU32 features (offset + length name) x.flags (symbols ++ later) refl h.flags,
+        list_back (after_reading comdat_symbol_at) (copies_skip comdat_symbol_at copies_comdat_symbol) x.symbols features there later
+            h.symbols,
+      )
+      (same_spot features (there + length symbols) (offset + length (name ++ (flags ++ symbols)))
+      (comdat_parts (comdat_placed features offset x)) later e);
+}

@@ -1,14 +1,21 @@
 -- The bytes of producers are read as the producers.
-use Rattle.std.proofs.Common.{ℕ, None, Ok}
+use Rattle.std.proofs.Common.{◌≡◌, ℕ, ◌+◌, true, List, ◌++◌, None, Ok, append_assoc, arith, length, length-append, refl}
 use Rattle.wasm_base.specs.Item.{ReadsAs}
 use Rattle.wasm_base.specs.Name.{text_at}
 use Rattle.wasm_base.specs.Outcome.{◌>>=◌}
-use Rattle.wasm_custom.specs.Producers.{ValueParts, field_value_at, value_parts}
+use Rattle.wasm_base.specs.Skip.{skipped_name_at}
+use Rattle.wasm_custom.specs.Producers.{ValueParts, field_at, field_name_at, field_parts, field_value_at, is_field_name}
+use Rattle.wasm_custom.specs.Producers.{skipped_value_at, value_parts}
+use Rattle.wasm_custom.specs.declared.producers.ProducersField.{ProducersField}
 use Rattle.wasm_custom.specs.declared.producers.ProducersFieldValue.{ProducersFieldValue}
+use Rattle.wasm_encode.specs.Lists.{list_bytes}
 use Rattle.wasm_encode.specs.Names.{name_bytes}
-use Rattle.wasm_encode.specs.Producers.{ValueFits, value_bytes}
+use Rattle.wasm_encode.specs.Producers.{FieldFits, ValueFits, field_bytes, field_placed, value_bytes}
 use Rattle.wasm_encode.specs.ReadsBack.{Encodes}
-use Rattle.wasm_encode.proofs.Readings.{Reads, encodes_so, reads_as, reads_then}
+use Rattle.wasm_encode.specs.Texts.{TextFits}
+use Rattle.wasm_encode.proofs.CopiedExpressions.{Copies, in_turn}
+use Rattle.wasm_encode.proofs.ListsBack.{copies_name, list_back}
+use Rattle.wasm_encode.proofs.Readings.{Reads, encodes_so, reads_as, reads_then, same_spot}
 use Rattle.wasm_encode.proofs.TextsBack.{reads_text}
 
 reads_value : (x : ValueParts) (features : ℕ) → ValueFits x → Reads field_value_at features x (value_bytes x)
@@ -24,3 +31,30 @@ pub value_encodes : (x : ProducersFieldValue) (features : ℕ) → ValueFits (va
     → Encodes (ReadsAs value_parts field_value_at) features (λ (offset : ℕ). x) (value_bytes (value_parts x))
 value_encodes x features h =
     encodes_so value_parts field_value_at features x (value_bytes (value_parts x)) (reads_value (value_parts x) features h)
+
+copies_value : Copies (λ start. skipped_value_at)
+unfolding skipped_value_at
+copies_value = in_turn (λ s. skipped_name_at) (λ s x p. skipped_name_at p) copies_name (λ x. copies_name)
+
+reads_field_name : (name : List ℕ) (features : ℕ) → TextFits name → is_field_name name ≡ true
+    → Reads field_name_at features name (name_bytes name)
+unfolding field_name_at
+reads_field_name name features h known = record { at = λ offset later. rw ((reads_text name features h).at offset later) (rw known refl) }
+
+pub field_encodes : (x : ProducersField) (features : ℕ) → FieldFits (field_parts x)
+    → Encodes (ReadsAs field_parts field_at) features (λ (offset : ℕ). field_placed features offset x) (field_bytes (field_parts x))
+unfolding field_at field_bytes
+field_encodes x features h = record {
+  read = λ offset later.
+      let name : List ℕ = name_bytes x.name.now in
+      let values : List ℕ = list_bytes x.values in
+      let there : ℕ = offset + length name in
+      let e : there + length values ≡ offset + length (name ++ values) = omega (arith, length-append name values) in
+      rw (
+        append_assoc name values later,
+        (reads_field_name x.name.now features h.name h.known).at offset (values ++ later),
+        list_back skipped_value_at copies_value x.values features there later h.values,
+      )
+      (same_spot features (there + length values) (offset + length (name ++ values)) (field_parts (field_placed features offset x))
+      later e);
+}

@@ -31,3 +31,5 @@ pub mod Dylink0
 pub mod Subsections
 pub mod Reloc
 pub mod Linking
+pub mod Symbols
+pub mod Lists

@@ -48,6 +48,7 @@ mod reloc;
 mod section_items;
 mod sections;
 mod subsections;
+mod symbols;
 mod tables;
 mod target_features;
 mod texts;

@@ -1,15 +1,16 @@
 // What a linker reads of segments, functions that are called at startup, and comdats.
 ghost use Rattle.std.specs.Prelude.{◌≡◌, ◌+◌, ◌≤◌, ◌<◌, ◌^◌, ◌++◌, ◌↔◌, IsTrue, length, take};
-ghost use Rattle.wasm_custom.specs.Linking.{segment_parts};
-ghost use Rattle.wasm_encode.specs.Linking.{comdat_kind_byte, segment_bytes};
+ghost use Rattle.wasm_custom.specs.Linking.{comdat_parts, segment_parts};
+ghost use Rattle.wasm_encode.specs.Linking.{comdat_bytes, comdat_kind_byte, segment_bytes};
 
 use crate::bytes::write_byte;
 use crate::encode::Encode;
+use crate::lists::{is_list, list_len, write_list};
 use crate::names::write_name;
 use crate::number::{unsigned_len, write_unsigned};
 use crate::texts::{text_fits, text_len};
 use bitflags::Flags;
-use wasm_custom::{ComdatSymbol, ComdatSymbolKind, InitFunc, Segment};
+use wasm_custom::{Comdat, ComdatSymbol, ComdatSymbolKind, InitFunc, Segment};
 
 // Returns how many bytes a segment has.
 #[tactic(auto, unfolding(crate::specs::Linking::segment_bytes), using(crate::proofs::Numbers::septets_few))]
@@ -138,6 +139,55 @@ impl Encode for ComdatSymbol {
     fn encode_at(&self, bytes: &mut [u8], at: usize) -> usize {
         let after_kind = write_byte(bytes, at, byte_of(self.kind));
         write_unsigned(bytes, after_kind, u64::from(self.index))
+    }
+
+    fn reads_back(&self) {}
+}
+
+// Returns how many bytes a comdat has.
+#[tactic(auto, unfolding(crate::specs::Linking::comdat_bytes), using(crate::proofs::Numbers::septets_few))]
+fn comdat_len(comdat: &Comdat<'_>) -> usize
+    requires { length comdat.now.name.now < 2 ^ 32 }
+    ensures { result ≡ length (comdat_bytes (comdat_parts comdat.now)) }
+{
+    text_len(comdat.name) + unsigned_len(u64::from(comdat.flags)) + list_len(&comdat.symbols)
+}
+
+impl<'a> Encode for Comdat<'a> {
+    ghost use Rattle.wasm_base.specs.Item.{ReadsAs};
+    ghost use Rattle.wasm_custom.specs.Linking.{comdat_at};
+    ghost use Rattle.wasm_encode.specs.Linking.{ComdatFits, comdat_placed};
+
+    ghost meaning = { ReadsAs comdat_parts comdat_at };
+
+    ghost encoded = { λ comdat. comdat_bytes (comdat_parts comdat) };
+
+    ghost is_encodable = { λ comdat. ComdatFits (comdat_parts comdat) };
+
+    ghost is_allowed = { λ features comdat. Unit {0} };
+
+    ghost placed = { comdat_placed };
+
+    fn fits(&self) -> bool {
+        let _flags = self.flags;
+        if !text_fits(self.name) {
+            return false;
+        }
+        if !is_list(&self.symbols) {
+            return false;
+        }
+        comdat_len(self) <= u32::MAX as usize
+    }
+
+    fn encoded_len(&self) -> usize {
+        comdat_len(self)
+    }
+
+    #[tactic(auto, unfolding(crate::specs::Linking::comdat_bytes), using(crate::proofs::RestStays::stays_on))]
+    fn encode_at(&self, bytes: &mut [u8], at: usize) -> usize {
+        let after_name = write_name(bytes, at, self.name);
+        let after_flags = write_unsigned(bytes, after_name, u64::from(self.flags));
+        write_list(bytes, after_flags, &self.symbols)
     }
 
     fn reads_back(&self) {}

@@ -1,8 +1,10 @@
 // What linkers and dynamic linkers read (tool conventions, Linking and Dynamic Linking).
 use crate::tests::{encodes, is_refused};
+use std::process::Abort;
+use wasm_base::{BinaryReader, SectionLimited};
 use wasm_custom::{
-    ComdatSymbol, ComdatSymbolKind, ExportInfo, ImportInfo, InitFunc, MemInfo, RelocationEntry,
-    RelocationType, Segment, SegmentFlags, SymbolFlags,
+    Comdat, ComdatSymbol, ComdatSymbolKind, DefinedDataSymbol, ExportInfo, ImportInfo, InitFunc,
+    MemInfo, RelocationEntry, RelocationType, Segment, SegmentFlags, SymbolFlags, SymbolInfo,
 };
 
 #[test]
@@ -78,4 +80,82 @@ fn refused_relocations(rt: HostRuntime) {
         &rt,
         &relocation(RelocationType::MemoryAddrLeb, -0x8000_0001),
     );
+}
+
+// A comdat with these symbols.
+fn comdat<'a>(rt: &impl Abort, symbols: &'a [u8]) -> Comdat<'a> {
+    match SectionLimited::new(BinaryReader::new(symbols, 9)) {
+        Ok(symbols) => Comdat {
+            name: "c",
+            flags: 0,
+            symbols,
+        },
+        Err(_) => panic!(rt; "no count"),
+    }
+}
+
+#[test]
+fn comdats(rt: HostRuntime) {
+    let bytes = b"\x01c\0\x02\x01\x05\0\xac\x02";
+    encodes(&rt, &comdat(&rt, b"\x02\x01\x05\0\xac\x02"), bytes);
+    // A kind that there is not.
+    is_refused(&rt, &comdat(&rt, b"\x01\x06\x05"));
+}
+
+// The symbol of function 3.
+fn function<'a>(flags: SymbolFlags, name: Option<&'a str>) -> SymbolInfo<'a> {
+    SymbolInfo::Func {
+        flags,
+        index: 3,
+        name,
+    }
+}
+
+#[test]
+fn symbols(rt: HostRuntime) {
+    let local = SymbolFlags::BINDING_LOCAL;
+    encodes(&rt, &function(local, Some("f")), b"\0\x02\x03\x01f");
+    let imported = SymbolFlags::UNDEFINED;
+    encodes(&rt, &function(imported, None), b"\0\x10\x03");
+    // A name that is there or not against the flags.
+    is_refused(&rt, &function(local, None));
+    is_refused(&rt, &function(imported, Some("f")));
+    let flags = SymbolFlags::TLS;
+    let section = SymbolInfo::Section { flags, section: 7 };
+    encodes(&rt, &section, b"\x03\x80\x02\x07");
+    let table = SymbolInfo::Table {
+        flags: SymbolFlags::EXPORTED,
+        index: 0,
+        name: Some("t"),
+    };
+    encodes(&rt, &table, b"\x05\x20\0\x01t");
+}
+
+// The symbol of data.
+fn data_symbol<'a>(flags: SymbolFlags, symbol: Option<DefinedDataSymbol>) -> SymbolInfo<'a> {
+    SymbolInfo::Data {
+        flags,
+        name: "x",
+        symbol,
+    }
+}
+
+#[test]
+fn symbols_of_data(rt: HostRuntime) {
+    let place = DefinedDataSymbol {
+        index: 0,
+        offset: 8,
+        size: 200,
+    };
+    encodes(&rt, &place, b"\0\x08\xc8\x01");
+    let weak = SymbolFlags::BINDING_WEAK;
+    encodes(
+        &rt,
+        &data_symbol(weak, Some(place)),
+        b"\x01\x01\x01x\0\x08\xc8\x01",
+    );
+    let imported = SymbolFlags::UNDEFINED;
+    encodes(&rt, &data_symbol(imported, None), b"\x01\x10\x01x");
+    is_refused(&rt, &data_symbol(weak, None));
+    is_refused(&rt, &data_symbol(imported, Some(place)));
 }
