@@ -41,3 +41,4 @@ pub mod RelocBack
 pub mod LinkingBack
 pub mod SymbolsBack
 pub mod ListsBack
+pub mod NameMapsBack

@@ -61,6 +61,7 @@ pub use encode::Encode;
 pub use expressions::{expression_fits, expression_len, expression_reads_back, write_expression};
 pub use modules::{Module, Refused, SectionItem, Unfinished};
 pub use names::{name_fits, name_len, write_name};
+pub use namings::{module_name_reads_back, name_map_reads_back};
 pub use number::{signed_len, unsigned_len, write_signed, write_unsigned};
 pub use sections::{
     items_read_back, number_section_len, section_fits, section_len, section_reads_back,

@@ -1,7 +1,8 @@
 // Names as items, and subsections (core specification, Appendix, Custom Sections, Name Section).
-use crate::tests::encodes;
+use crate::tests::{encodes, is_refused};
 use std::process::Abort;
-use wasm_custom::Naming;
+use wasm_base::{BinaryReader, FromReader};
+use wasm_custom::{IndirectNaming, Naming};
 use wasm_encode::{
     Encode, section_fits, section_len, subsection_len, write_section, write_subsection,
 };
@@ -54,4 +55,26 @@ fn function_names(rt: HostRuntime) {
     let mut bytes = [0; 11];
     write_section(&mut bytes, 0, 1, &names);
     assert_eq!(&rt; &bytes, b"\x01\x09\x02\0\x01a\xac\x02\x02bc");
+}
+
+// The entry that these bytes begin with.
+fn locals<'a>(rt: &impl Abort, bytes: &'a [u8]) -> IndirectNaming<'a> {
+    match IndirectNaming::from_reader(&mut BinaryReader::new(bytes, 7)) {
+        Ok(naming) => naming,
+        Err(_) => panic!(rt; "no names"),
+    }
+}
+
+#[test]
+fn names_of_locals(rt: HostRuntime) {
+    // The count has a byte more than it takes.
+    let naming = locals(&rt, b"\xac\x02\x82\0\0\x01x\x03\x01y\xff");
+    encodes(&rt, &naming, b"\xac\x02\x02\0\x01x\x03\x01y");
+}
+
+#[test]
+fn names_that_were_iterated_over(rt: HostRuntime) {
+    let mut naming = locals(&rt, b"\x05\x01\0\x01x");
+    assert!(&rt; naming.names.next().is_some());
+    is_refused(&rt, &naming);
 }
