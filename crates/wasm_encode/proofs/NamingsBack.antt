@@ -1,7 +1,6 @@
 -- The bytes of names are read as the names.
-use Rattle.std.proofs.Common.{◌≡◌, ℕ, ◌+◌, ◌-◌, ◌<◌, ◌^◌, List, [], ◌∷◌, ◌++◌, None, Ok, Some, ap, append-nil, append_assoc, arith}
-use Rattle.std.proofs.Common.{length, length-append, map, refl, subst, sym}
-use Rattle.std.proofs.Math.Seq.{drop-append_seam}
+use Rattle.std.proofs.Common.{◌≡◌, ℕ, ◌+◌, ◌<◌, ◌^◌, List, [], ◌∷◌, ◌++◌, None, Ok, Some, ap, append-nil, append_assoc, arith}
+use Rattle.std.proofs.Common.{length, length-append, map, refl, subst}
 use Rattle.std.proofs.lemmas.List.Elements.{All-cons, All-nil}
 use Rattle.wasm_base.specs.Ascending.{NextAscending, none_given}
 use Rattle.wasm_base.specs.Ending.{end_at}
@@ -9,7 +8,7 @@ use Rattle.wasm_base.specs.Item.{ReadsAs}
 use Rattle.wasm_base.specs.Name.{name_limit, text_at}
 use Rattle.wasm_base.specs.Number.{unsigned_at}
 use Rattle.wasm_base.specs.Outcome.{◌>>=◌}
-use Rattle.wasm_base.specs.Section.{ItemsOf, NextItem, all_items, as_read, section_in}
+use Rattle.wasm_base.specs.Section.{ItemsOf, NextItem, all_items, as_read}
 use Rattle.wasm_base.specs.Skip.{skipped_name_at}
 use Rattle.wasm_base.specs.Window.{place}
 use Rattle.wasm_base.specs.declared.fault.Fault.TheVariants.{NamesOrder}
@@ -24,8 +23,8 @@ use Rattle.wasm_encode.specs.Namings.{IndirectFits, MapBack, ModuleNameBack, Nam
 use Rattle.wasm_encode.specs.Namings.{map_content, map_section, names_of, naming_bytes}
 use Rattle.wasm_encode.specs.Numbers.{unsigned_bytes}
 use Rattle.wasm_encode.specs.ReadsBack.{Encodes, spot}
-use Rattle.wasm_encode.specs.Sections.{ItemsBack, items_bytes, placed_items}
-use Rattle.wasm_encode.specs.Subsections.{ListReadsBack, content_offset, content_window}
+use Rattle.wasm_encode.specs.Sections.{placed_items}
+use Rattle.wasm_encode.specs.Subsections.{ListReadsBack, content_offset, content_window, items_offset}
 use Rattle.wasm_encode.proofs.CopiedExpressions.{Copies, in_turn, unsigned}
 use Rattle.wasm_encode.proofs.ImportsBack.{reads_u32}
 use Rattle.wasm_encode.proofs.Lengths.{name_few}
@@ -77,13 +76,6 @@ indirect_encodes x features h = record {
 
 -- ---- the name of a module
 
--- a window that is made of bytes begins with them
-window_place : (features offset : ℕ) (content : List ℕ)
-    → place (content_window features offset content) ≡ spot features (content_offset offset content) content
-window_place features offset content =
-    let e : content_offset offset content + 0 ≡ content_offset offset content = omega arith in
-    ap (λ (k : ℕ). spot features k content) e
-
 pub module_name_back : (text : List ℕ) (features offset : ℕ) → NameFits text → ModuleNameBack features offset text
 unfolding name_in module_name_in end_at
 module_name_back text features offset h =
@@ -110,44 +102,28 @@ same_entries : (offset : ℕ) (xs : List Naming) → placed_items encoded (λ (o
 same_entries offset [] = refl
 same_entries offset (x ∷ xs) = ap (λ (ys : List Naming). x ∷ ys) (same_entries (offset + length (encoded x)) xs)
 
--- the entries of a window whose count is at its start
-map_read : (features offset : ℕ) (xs : List Naming) → ItemsBack (ReadsAs naming_parts naming_at) features (content_offset offset (map_content xs)) encoded (λ (o : ℕ) x. x) xs
-    → entries_in (content_window features offset (map_content xs)) ≡ Ok (none_given (all_items (map_section features offset xs)))
-unfolding entries_in section_in
-map_read features offset xs back =
-    let there : ℕ = content_offset offset (map_content xs) in
-    let size : ℕ = length (unsigned_bytes (length xs)) in
-    let n : there + 0 ≡ there = omega arith in
-    let d : 0 + (there + size - there) ≡ size = omega arith in
-    rw (n, back.count) (rw d refl)
-
 pub map_back : (xs : List Naming) (features offset : ℕ)
     → ListReadsBack (ReadsAs naming_parts naming_at) (λ (f : ℕ) (x : Naming). Unit {0}) encoded (λ (f o : ℕ) (x : Naming). x) xs
     → MapBack (NextAscending (NextItem (ReadsAs naming_parts naming_at)) offset_of_entry index_of NamesOrder) features offset xs
-unfolding name_in
+unfolding name_in entries_in
 map_back xs features offset back =
     let one = back features offset 1 (omega arith) (λ k d h. tt) in
-    let r = map_read features offset xs one.items in
-    let there : ℕ = content_offset offset (map_content xs) in
-    let size : List ℕ = unsigned_bytes (length xs) in
+    let section = one.section in
     let P = λ (id : ℕ). name_in id (content_window features offset (map_content xs))
     ≡ Ok (direct id (none_given (all_items (map_section features offset xs)))) in
     let listed : ItemsOf (ReadsAs naming_parts naming_at) (length xs) (place (map_section features offset xs).reader) (map as_read xs) =
-    subst (λ (bytes : List ℕ). ItemsOf (ReadsAs naming_parts naming_at) (length xs) (spot features (there + length size) bytes)
-    (map as_read xs)) (sym (drop-append_seam size (items_bytes encoded xs)))
-    (subst (λ (ys : List Naming). ItemsOf (ReadsAs naming_parts naming_at) (length xs)
-    (spot features (there + length size) (items_bytes encoded xs)) (map as_read ys)) (same_entries (there + length size) xs)
-    one.items.items) in
+    subst (λ (ys : List Naming). ItemsOf (ReadsAs naming_parts naming_at) (length xs) (place (map_section features offset xs).reader)
+    (map as_read ys)) (same_entries (items_offset offset encoded xs) xs) one.items in
     record {
       frame = λ id small. (back features offset id small (λ k d h. tt)).frame;
-      maps = All-cons P 1 (4 ∷ 5 ∷ 6 ∷ 7 ∷ 8 ∷ 9 ∷ 11 ∷ []) (rw r refl)
-          (All-cons P 4 (5 ∷ 6 ∷ 7 ∷ 8 ∷ 9 ∷ 11 ∷ []) (rw r refl)
-          (All-cons P 5 (6 ∷ 7 ∷ 8 ∷ 9 ∷ 11 ∷ []) (rw r refl)
-          (All-cons P 6 (7 ∷ 8 ∷ 9 ∷ 11 ∷ []) (rw r refl)
-          (All-cons P 7 (8 ∷ 9 ∷ 11 ∷ []) (rw r refl)
-          (All-cons P 8 (9 ∷ 11 ∷ []) (rw r refl)
-          (All-cons P 9 (11 ∷ []) (rw r refl)
-          (All-cons P 11 [] (rw r refl) (All-nil P))))))));
+      maps = All-cons P 1 (4 ∷ 5 ∷ 6 ∷ 7 ∷ 8 ∷ 9 ∷ 11 ∷ []) (rw section refl)
+          (All-cons P 4 (5 ∷ 6 ∷ 7 ∷ 8 ∷ 9 ∷ 11 ∷ []) (rw section refl)
+          (All-cons P 5 (6 ∷ 7 ∷ 8 ∷ 9 ∷ 11 ∷ []) (rw section refl)
+          (All-cons P 6 (7 ∷ 8 ∷ 9 ∷ 11 ∷ []) (rw section refl)
+          (All-cons P 7 (8 ∷ 9 ∷ 11 ∷ []) (rw section refl)
+          (All-cons P 8 (9 ∷ 11 ∷ []) (rw section refl)
+          (All-cons P 9 (11 ∷ []) (rw section refl)
+          (All-cons P 11 [] (rw section refl) (All-nil P))))))));
       entries = listed;
       given = λ ascends given drains. run naming_parts naming_at offset_of_entry index_of (λ (n : NamingParts). n.index) NamesOrder
           (λ x. refl) xs (none_given (all_items (map_section features offset xs))) drains.1.0 drains.0 given refl refl listed ascends

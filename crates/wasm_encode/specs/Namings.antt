@@ -15,7 +15,7 @@ use Rattle.wasm_encode.specs.Lists.{IsList, list_bytes, list_placed}
 use Rattle.wasm_encode.specs.Names.{name_bytes}
 use Rattle.wasm_encode.specs.Numbers.{unsigned_bytes}
 use Rattle.wasm_encode.specs.Sections.{SectionFits, content_bytes}
-use Rattle.wasm_encode.specs.Subsections.{IsSubsection, content_window}
+use Rattle.wasm_encode.specs.Subsections.{IsSubsection, content_section, content_window}
 use Rattle.wasm_encode.specs.Texts.{TextFits}
 
 -- | the bytes of an entry of a name map: an index and a name; of an indirect one: an index, and names that are copied;
@@ -76,11 +76,9 @@ map_content xs = content_bytes (λ x. naming_bytes (naming_parts x)) xs
 abbrev pub MapFits : List Naming → Type 0
 MapFits xs = SectionFits (λ x. naming_bytes (naming_parts x)) (λ x. NamingFits (naming_parts x)) xs
 
--- the section that the content of a name map is, if its subsection is at an offset: its reader is after the count
+-- the section that the content of a name map is, if its subsection is at an offset
 abbrev pub map_section : (features offset : ℕ) → List Naming → Section
-map_section features offset xs = section_after
-    (record (content_window features offset (map_content xs)) { position = length (unsigned_bytes (length xs)) })
-    (length xs)
+map_section features offset xs = content_section features offset (λ x. naming_bytes (naming_parts x)) xs
 
 -- entries as they are returned
 abbrev pub all_given : {X : Type 0} → List X → List (Result X Error)

@@ -1,12 +1,13 @@
 -- The bytes of subsections. Core specification, Appendix, Custom Sections, Name Section, Subsections; tool conventions,
 -- Linking, Linking Metadata Section.
-use Rattle.std.specs.Prelude.{◌≡◌, ℕ, ◌+◌, ◌<◌, List, [], ◌∷◌, ◌++◌, length, Ok, All}
+use Rattle.std.specs.Prelude.{◌≡◌, ℕ, ◌+◌, ◌<◌, List, [], ◌∷◌, ◌++◌, length, map, Ok, All}
 use Rattle.wasm_base.specs.Outcome.{Outcome}
+use Rattle.wasm_base.specs.Section.{ItemsOf, Section, as_read, section_after, section_in}
 use Rattle.wasm_base.specs.Subsections.{subsection_at}
-use Rattle.wasm_base.specs.Window.{Place, Window, window_over}
+use Rattle.wasm_base.specs.Window.{Place, Window, place, window_over}
 use Rattle.wasm_encode.specs.Numbers.{unsigned_bytes}
 use Rattle.wasm_encode.specs.ReadsBack.{spot}
-use Rattle.wasm_encode.specs.Sections.{ItemsBack, content_bytes}
+use Rattle.wasm_encode.specs.Sections.{content_bytes, placed_items}
 
 -- | a subsection: its id, the size of its content, and its content, as a section has them <Appendix, Name Section,
 --   Subsections; tool conventions, Linking>
@@ -21,6 +22,16 @@ content_offset offset content = offset + 1 + length (unsigned_bytes (length cont
 -- the window of the content of a subsection at an offset
 abbrev pub content_window : (features offset : ℕ) (content : List ℕ) → Window
 content_window features offset content = window_over features (content_offset offset content) content
+
+-- the section that the content of a subsection is, if it is a list: its reader is after the count
+abbrev pub content_section : {T : Type 0} → (features offset : ℕ) → (encoded : T → List ℕ) → List T → Section
+content_section features offset encoded xs = section_after
+    (record (content_window features offset (content_bytes encoded xs)) { position = length (unsigned_bytes (length xs)) })
+    (length xs)
+
+-- where the first of its items is
+abbrev pub items_offset : {T : Type 0} → (offset : ℕ) → (encoded : T → List ℕ) → List T → ℕ
+items_offset offset encoded xs = content_offset offset (content_bytes encoded xs) + length (unsigned_bytes (length xs))
 
 -- | these bytes at an offset are read as a subsection with this id and the window of this content, whatever comes after
 --   them [`content_window`] <Appendix, Name Section, Subsections>
@@ -42,12 +53,15 @@ pub record ItemBack {T : Type 0} (meaning : Place → Outcome T → Type 0) (fea
         spot features (content_offset offset (encoded x) + length (encoded x)) [],
       ))
 
--- The subsection of counted items is read as its id and a window, and the window as these items, with nothing after
--- them.
+-- The subsection of counted items is read as its id and a window, the window as a section, and that as these items, with
+-- nothing after them.
 pub record ListBack {T : Type 0} (meaning : Place → Outcome T → Type 0) (features offset id : ℕ) (encoded : T → List ℕ)
     (placed : ℕ → T → T) (xs : List T) : Type 0 where
   pub frame : IsSubsection features offset id (content_bytes encoded xs)
-  pub items : ItemsBack meaning features (content_offset offset (content_bytes encoded xs)) encoded placed xs
+  pub section : section_in (content_window features offset (content_bytes encoded xs))
+      ≡ Ok (content_section features offset encoded xs)
+  pub items : ItemsOf meaning (length xs) (place (content_section features offset encoded xs).reader)
+      (map as_read (placed_items encoded placed (items_offset offset encoded xs) xs))
 
 -- | a subsection is read as its id and a window, and the window as the item, or the items, that were written
 --   [`ItemBack`; `ListReadsBack`, `ListBack`]

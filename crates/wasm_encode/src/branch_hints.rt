@@ -4,7 +4,7 @@ ghost use Rattle.wasm_encode.specs.BranchHints.{function_hints_bytes};
 
 use crate::bytes::write_byte;
 use crate::encode::Encode;
-use crate::lists::{is_list, list_len, write_list};
+use crate::lists::{copied_len, is_list, write_copied};
 use crate::number::{unsigned_len, write_unsigned};
 use wasm_custom::{BranchHint, BranchHintFunction};
 
@@ -48,7 +48,7 @@ impl Encode for BranchHint {
 fn function_hints_len(function: &BranchHintFunction<'_>) -> usize
     ensures { result ≡ length (function_hints_bytes function.now) }
 {
-    unsigned_len(u64::from(function.func)) + list_len(&function.hints)
+    unsigned_len(u64::from(function.func)) + copied_len(&function.hints)
 }
 
 impl<'a> Encode for BranchHintFunction<'a> {
@@ -81,7 +81,7 @@ impl<'a> Encode for BranchHintFunction<'a> {
     #[tactic(auto, unfolding(crate::specs::BranchHints::function_hints_bytes), using(crate::proofs::RestStays::stays_on))]
     fn encode_at(&self, bytes: &mut [u8], at: usize) -> usize {
         let after_func = write_unsigned(bytes, at, u64::from(self.func));
-        write_list(bytes, after_func, &self.hints)
+        write_copied(bytes, after_func, &self.hints)
     }
 
     fn reads_back(&self) {}

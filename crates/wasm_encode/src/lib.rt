@@ -59,6 +59,7 @@ pub use copied::types_are_copied;
 pub use custom::{custom_fits, custom_len, write_custom};
 pub use encode::Encode;
 pub use expressions::{expression_fits, expression_len, expression_reads_back, write_expression};
+pub use lists::{list_len, write_list};
 pub use modules::{Module, Refused, SectionItem, Unfinished};
 pub use names::{name_fits, name_len, write_name};
 pub use namings::{module_name_reads_back, name_map_reads_back};
@@ -67,4 +68,6 @@ pub use sections::{
     items_read_back, number_section_len, section_fits, section_len, section_reads_back,
     write_number_section, write_section,
 };
-pub use subsections::{list_reads_back, subsection_len, subsection_reads_back, write_subsection};
+pub use subsections::{
+    list_subsection_reads_back, subsection_len, subsection_reads_back, write_subsection,
+};

@@ -5,7 +5,7 @@ ghost use Rattle.wasm_encode.specs.Linking.{comdat_bytes, comdat_kind_byte, segm
 
 use crate::bytes::write_byte;
 use crate::encode::Encode;
-use crate::lists::{is_list, list_len, write_list};
+use crate::lists::{copied_len, is_list, write_copied};
 use crate::names::write_name;
 use crate::number::{unsigned_len, write_unsigned};
 use crate::texts::{text_fits, text_len};
@@ -150,7 +150,7 @@ fn comdat_len(comdat: &Comdat<'_>) -> usize
     requires { length comdat.now.name.now < 2 ^ 32 }
     ensures { result ≡ length (comdat_bytes (comdat_parts comdat.now)) }
 {
-    text_len(comdat.name) + unsigned_len(u64::from(comdat.flags)) + list_len(&comdat.symbols)
+    text_len(comdat.name) + unsigned_len(u64::from(comdat.flags)) + copied_len(&comdat.symbols)
 }
 
 impl<'a> Encode for Comdat<'a> {
@@ -187,7 +187,7 @@ impl<'a> Encode for Comdat<'a> {
     fn encode_at(&self, bytes: &mut [u8], at: usize) -> usize {
         let after_name = write_name(bytes, at, self.name);
         let after_flags = write_unsigned(bytes, after_name, u64::from(self.flags));
-        write_list(bytes, after_flags, &self.symbols)
+        write_copied(bytes, after_flags, &self.symbols)
     }
 
     fn reads_back(&self) {}

@@ -5,10 +5,10 @@ ghost use Rattle.wasm_encode.specs.Names.{NameFits};
 ghost use Rattle.wasm_encode.specs.Namings.{HasNotBegun, MapBack, MapFits, ModuleNameBack, indirect_bytes, names_of, naming_bytes};
 
 use crate::encode::Encode;
-use crate::lists::{is_list, list_len, write_list};
+use crate::lists::{copied_len, is_list, write_copied};
 use crate::names::write_name;
 use crate::number::{unsigned_len, write_unsigned};
-use crate::subsections::list_reads_back;
+use crate::subsections::list_subsection_reads_back;
 use crate::texts::{text_fits, text_len};
 use wasm_base::SectionLimited;
 use wasm_custom::{IndirectNaming, NameMap, Naming};
@@ -80,7 +80,7 @@ fn has_not_begun(naming: &IndirectNaming<'_>) -> bool
 fn indirect_len(naming: &IndirectNaming<'_>) -> usize
     ensures { result ≡ length (indirect_bytes naming.now) }
 {
-    unsigned_len(u64::from(naming.index)) + list_len(&names_of(naming))
+    unsigned_len(u64::from(naming.index)) + copied_len(&names_of(naming))
 }
 
 impl<'a> Encode for IndirectNaming<'a> {
@@ -116,7 +116,7 @@ impl<'a> Encode for IndirectNaming<'a> {
     #[tactic(auto, unfolding(crate::specs::Namings::indirect_bytes), using(crate::proofs::RestStays::stays_on))]
     fn encode_at(&self, bytes: &mut [u8], at: usize) -> usize {
         let after_index = write_unsigned(bytes, at, u64::from(self.index));
-        write_list(bytes, after_index, &names_of(self))
+        write_copied(bytes, after_index, &names_of(self))
     }
 
     fn reads_back(&self) {}
@@ -141,5 +141,5 @@ pub fn name_map_reads_back<'a>(namings: &[Naming<'a>])
     ensures { (features offset : ℕ) → MapBack ⟦<NameMap<'a> as Iterator>⟧.next_gives
         features offset namings.now }
 {
-    list_reads_back(namings)
+    list_subsection_reads_back(namings)
 }

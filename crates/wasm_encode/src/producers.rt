@@ -4,7 +4,7 @@ ghost use Rattle.wasm_custom.specs.Producers.{field_parts, is_field_name, value_
 ghost use Rattle.wasm_encode.specs.Producers.{field_bytes, value_bytes};
 
 use crate::encode::Encode;
-use crate::lists::{is_list, list_len, write_list};
+use crate::lists::{copied_len, is_list, write_copied};
 use crate::names::write_name;
 use crate::texts::{text_fits, text_len};
 use wasm_custom::{ProducersField, ProducersFieldValue};
@@ -70,7 +70,7 @@ fn field_len(field: &ProducersField<'_>) -> usize
     requires { length field.now.name.now < 2 ^ 32 }
     ensures { result ≡ length (field_bytes (field_parts field.now)) }
 {
-    text_len(field.name) + list_len(&field.values)
+    text_len(field.name) + copied_len(&field.values)
 }
 
 impl<'a> Encode for ProducersField<'a> {
@@ -108,7 +108,7 @@ impl<'a> Encode for ProducersField<'a> {
     #[tactic(auto, unfolding(crate::specs::Producers::field_bytes), using(crate::proofs::RestStays::stays_on))]
     fn encode_at(&self, bytes: &mut [u8], at: usize) -> usize {
         let after_name = write_name(bytes, at, self.name);
-        write_list(bytes, after_name, &self.values)
+        write_copied(bytes, after_name, &self.values)
     }
 
     fn reads_back(&self) {}

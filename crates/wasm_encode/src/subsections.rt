@@ -72,7 +72,7 @@ pub fn subsection_reads_back<T: Encode>(item: &T)
 
 /// A section of counted items, with an id below 128, is also a subsection: it is read as its id and a window, whatever
 /// comes after it, and the window as exactly these items. Does nothing.
-pub fn list_reads_back<T: Encode>(items: &[T])
+pub fn list_subsection_reads_back<T: Encode>(items: &[T])
     requires { SectionFits T.encoded T.is_encodable items.now }
     // Proved: a subsection of counted items that was written, by `write_section`, is read as its id and a window, and
     //   the window as exactly the given items, for items of any type
