@@ -16,9 +16,10 @@ use Rattle.wasm_encode.specs.Limits.{flag}
 use Rattle.wasm_encode.specs.Lists.{list_bytes}
 use Rattle.wasm_encode.specs.Numbers.{unsigned_bytes}
 use Rattle.wasm_encode.specs.ReadsBack.{Encodes}
-use Rattle.wasm_encode.proofs.CopiedExpressions.{Copies, in_turn, nothing, unsigned}
+use Rattle.wasm_encode.proofs.CopiedExpressions.{unsigned}
 use Rattle.wasm_encode.proofs.ImportsBack.{reads_u32}
 use Rattle.wasm_encode.proofs.ListsBack.{copies_skip, copies_table, list_back}
+use Rattle.wasm_encode.proofs.Moves.{Copies, in_turn, nothing}
 use Rattle.wasm_encode.proofs.NumbersBack.{unsigned_at_spot}
 use Rattle.wasm_encode.proofs.Readings.{Reads, encodes_so, reads_as, reads_then, same_spot}
 

@@ -19,8 +19,7 @@ use Rattle.wasm_base.specs.declared.fault.Fault.TheVariants.{UnexpectedEof, NotC
 use Rattle.wasm_base.specs.declared.fault.NumberKind.{NumberKind}
 use Rattle.wasm_base.specs.declared.fault.NumberKind.TheVariants.{VarU32, VarS33}
 use Rattle.wasm_encode.specs.ReadsBack.{spot}
-pub use Rattle.wasm_encode.proofs.Moves.{Copies, either, in_turn, nothing}
-use Rattle.wasm_encode.proofs.Moves.{Any, Moved, fails}
+use Rattle.wasm_encode.proofs.Moves.{Any, Copies, Moved, either, fails, in_turn, nothing}
 use Rattle.wasm_encode.proofs.NumbersBack.{unsigned_read, signed_read}
 use Rattle.wasm_encode.proofs.Readings.{Reads, same_spot}
 use Rattle.wasm_items.proofs.Expressions.{end_or_instruction}

@@ -15,10 +15,11 @@ use Rattle.wasm_encode.specs.Lists.{list_bytes, list_placed}
 use Rattle.wasm_encode.specs.Numbers.{unsigned_bytes}
 use Rattle.wasm_encode.specs.ReadsBack.{spot, Encodes}
 use Rattle.wasm_encode.specs.Types.{ref_bytes}
-use Rattle.wasm_encode.proofs.CopiedExpressions.{Copies, unsigned}
+use Rattle.wasm_encode.proofs.CopiedExpressions.{unsigned}
 use Rattle.wasm_encode.proofs.ExpressionsBack.{copied}
 use Rattle.wasm_encode.proofs.ImportsBack.{reads_kind}
 use Rattle.wasm_encode.proofs.ListsBack.{copies_expression, copies_skip, list_back}
+use Rattle.wasm_encode.proofs.Moves.{Copies}
 use Rattle.wasm_encode.proofs.NumbersBack.{unsigned_at_spot}
 use Rattle.wasm_encode.proofs.SegmentsBack.{flags_back}
 use Rattle.wasm_encode.proofs.TypesBack.{reads_ref}

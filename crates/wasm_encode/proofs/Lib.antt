@@ -40,5 +40,4 @@ pub mod SubsectionsBack
 pub mod RelocBack
 pub mod LinkingBack
 pub mod SymbolsBack
-pub mod ListsBack
 pub mod NameMapsBack

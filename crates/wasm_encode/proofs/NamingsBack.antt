@@ -25,10 +25,11 @@ use Rattle.wasm_encode.specs.Numbers.{unsigned_bytes}
 use Rattle.wasm_encode.specs.ReadsBack.{Encodes, spot}
 use Rattle.wasm_encode.specs.Sections.{placed_items}
 use Rattle.wasm_encode.specs.Subsections.{ListReadsBack, content_offset, content_window, items_offset}
-use Rattle.wasm_encode.proofs.CopiedExpressions.{Copies, in_turn, unsigned}
+use Rattle.wasm_encode.proofs.CopiedExpressions.{unsigned}
 use Rattle.wasm_encode.proofs.ImportsBack.{reads_u32}
 use Rattle.wasm_encode.proofs.Lengths.{name_few}
 use Rattle.wasm_encode.proofs.ListsBack.{copies_name, list_back}
+use Rattle.wasm_encode.proofs.Moves.{Copies, in_turn}
 use Rattle.wasm_encode.proofs.NameMapsBack.{run}
 use Rattle.wasm_encode.proofs.NamesBack.{reads_name}
 use Rattle.wasm_encode.proofs.NumbersBack.{unsigned_at_spot}

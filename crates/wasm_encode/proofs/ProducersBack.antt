@@ -13,8 +13,8 @@ use Rattle.wasm_encode.specs.Names.{name_bytes}
 use Rattle.wasm_encode.specs.Producers.{FieldFits, ValueFits, field_bytes, field_placed, value_bytes}
 use Rattle.wasm_encode.specs.ReadsBack.{Encodes}
 use Rattle.wasm_encode.specs.Texts.{TextFits}
-use Rattle.wasm_encode.proofs.CopiedExpressions.{Copies, in_turn}
 use Rattle.wasm_encode.proofs.ListsBack.{copies_name, list_back}
+use Rattle.wasm_encode.proofs.Moves.{Copies, in_turn}
 use Rattle.wasm_encode.proofs.Readings.{Reads, encodes_so, reads_as, reads_then, same_spot}
 use Rattle.wasm_encode.proofs.TextsBack.{reads_text}
 

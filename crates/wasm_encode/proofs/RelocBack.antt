@@ -1,5 +1,5 @@
 -- The bytes of relocations are read as the relocations.
-use Rattle.std.proofs.Common.{◌≡◌, ℕ, ℤ, pos, [], ◌∷◌, ◌++◌, Ok, refl, sym, subst}
+use Rattle.std.proofs.Common.{ℕ, ℤ, pos, [], ◌∷◌, ◌++◌, Ok, refl, sym, subst}
 use Rattle.wasm_base.specs.Item.{ReadsAs}
 use Rattle.wasm_base.specs.Number.{unsigned_at}
 use Rattle.wasm_base.specs.Outcome.{◌>>=◌}

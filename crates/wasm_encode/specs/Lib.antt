@@ -32,4 +32,3 @@ pub mod Subsections
 pub mod Reloc
 pub mod Linking
 pub mod Symbols
-pub mod Lists

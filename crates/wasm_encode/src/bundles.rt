@@ -6,7 +6,7 @@ ghost use Rattle.wasm_items.specs.Imports.{bundle_parts};
 
 use crate::bytes::write_byte;
 use crate::encode::Encode;
-use crate::lists::{is_list, list_len, write_list};
+use crate::lists::{copied_len, is_list, write_copied};
 use crate::names::{name_fits, name_len, write_name};
 use wasm_items::Imports;
 
@@ -66,9 +66,9 @@ fn bundle_len(item: &Imports<'_>) -> usize
 {
     match item {
         Imports::Single(_, import) => import.encoded_len(),
-        Imports::Compact1 { module, items } => names_len(module) + list_len(items),
+        Imports::Compact1 { module, items } => names_len(module) + copied_len(items),
         Imports::Compact2 { module, ty, names } => {
-            names_len(module) + ty.encoded_len() + list_len(names)
+            names_len(module) + ty.encoded_len() + copied_len(names)
         }
     }
 }
@@ -105,12 +105,12 @@ impl<'a> Encode for Imports<'a> {
             Imports::Single(_, import) => import.encode_at(bytes, at),
             Imports::Compact1 { module, items } => {
                 let after_names = write_names(bytes, at, module, 0x7f);
-                write_list(bytes, after_names, items)
+                write_copied(bytes, after_names, items)
             }
             Imports::Compact2 { module, ty, names } => {
                 let after_names = write_names(bytes, at, module, 0x7e);
                 let after_type = ty.encode_at(bytes, after_names);
-                write_list(bytes, after_type, names)
+                write_copied(bytes, after_type, names)
             }
         }
     }

@@ -10,7 +10,7 @@ use crate::encode::Encode;
 use crate::expressions::bytes_of;
 use crate::globals::is_expression;
 use crate::limits::{maybe_len, write_maybe_number};
-use crate::lists::{is_list, is_list_of_numbers, list_len, write_list};
+use crate::lists::{copied_len, is_list, is_list_of_numbers, write_copied};
 use wasm_items::{Element, ElementItems, ElementKind, RefType};
 
 // Returns whether the index of a table is a number of 32 bits, as it always is.
@@ -193,8 +193,8 @@ fn elements_len(items: &ElementItems<'_>) -> usize
     ensures { result ≡ length (list_bytes (list_of items.now)) }
 {
     match items {
-        ElementItems::Functions(indices) => list_len(indices),
-        ElementItems::Expressions(_, expressions) => list_len(expressions),
+        ElementItems::Functions(indices) => copied_len(indices),
+        ElementItems::Expressions(_, expressions) => copied_len(expressions),
     }
 }
 
@@ -207,8 +207,8 @@ fn write_elements(bytes: &mut [u8], at: usize, items: &ElementItems<'_>) -> usiz
     ensures len { length bytes.new ≡ length bytes.old }
 {
     match items {
-        ElementItems::Functions(indices) => write_list(bytes, at, indices),
-        ElementItems::Expressions(_, expressions) => write_list(bytes, at, expressions),
+        ElementItems::Functions(indices) => write_copied(bytes, at, indices),
+        ElementItems::Expressions(_, expressions) => write_copied(bytes, at, expressions),
     }
 }
 

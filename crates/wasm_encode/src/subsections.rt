@@ -22,7 +22,7 @@ use crate::sections::section_reads_back;
 pub fn subsection_len<T: Encode>(item: &T) -> usize
     requires { T.is_encodable item.now }
     // Proved: `subsection_len` is how many bytes `write_subsection` writes
-    ensures { (id : ℕ) → result ≡ length (subsection_bytes id (T.encoded item.now)) }
+    ensures { result ≡ length (subsection_bytes 0 (T.encoded item.now)) }
 {
     let size = item.encoded_len();
     1 + unsigned_len(size as u64) + size

@@ -1,4 +1,4 @@
-use Rattle.std.proofs.Common.{◌∷◌, ◌∙◌, ◌-◌, ◌^◌, [], All, refl, sym, subst}
+use Rattle.std.proofs.Common.{◌∙◌, ◌-◌, ◌^◌, [], All, refl, sym, subst}
 use Rattle.std.proofs.lemmas.List.Elements.{All-head}
 use Rattle.wasm_encode.specs.RecGroups.{SubtypeFits, subtype_bytes}
 use Rattle.wasm_encode.specs.Sections.{ListFits}
