@@ -73,6 +73,25 @@ fn bundle_len(item: &Imports<'_>) -> usize
     }
 }
 
+/// Writes a single import, or a bundle, whose list is copied.
+///
+/// A bundle fits if its list has as many imports as it announces and nothing after them. Only readers with the feature
+/// `COMPACT_IMPORTS` read bundles.
+///
+/// ```rattle
+/// let names = SectionLimited::after_count(BinaryReader::new(b"\x01f\x01g", 0), 2);
+/// let bundle = Imports::Compact2 {
+///     module: "m",
+///     ty: TypeRef::Func(5),
+///     names,
+/// };
+/// let mut bytes = [0; 11];
+/// assert!(rt; bundle.fits());
+/// bundle.encode_at(&mut bytes, 0);
+/// assert_eq!(rt; &bytes, b"\x01m\0\x7e\0\x05\x02\x01f\x01g");
+/// ```
+///
+/// (Core specification, Binary format, Modules, Import Section; the proposal for compact imports.)
 impl<'a> Encode for Imports<'a> {
     ghost use Rattle.wasm_base.specs.Item.{ReadsAs};
     ghost use Rattle.wasm_encode.specs.Bundles.{BundleAllowed, bundle_placed};

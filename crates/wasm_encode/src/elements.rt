@@ -223,6 +223,26 @@ fn element_len(segment: &Element<'_>) -> usize
     1 + kind_len(&segment.kind) + type_len(typed, &segment.items) + elements_len(&segment.items)
 }
 
+/// Writes the flags that the kind and the elements need, then what belongs to the kind, then the elements, whose bytes
+/// are copied.
+///
+/// A segment fits if its list has as many elements as it announces and nothing after them. Expressions of an active
+/// segment without the index of a table have to be of type `funcref`, since their type isn't written.
+///
+/// ```rattle
+/// let functions = SectionLimited::after_count(BinaryReader::new(&[5, 6], 0), 2);
+/// let segment = Element {
+///     kind: ElementKind::Declared,
+///     items: ElementItems::Functions(functions),
+///     range: 0..0,
+/// };
+/// let mut bytes = [0; 5];
+/// assert!(rt; segment.fits());
+/// segment.encode_at(&mut bytes, 0);
+/// assert_eq!(rt; &bytes, b"\x03\0\x02\x05\x06");
+/// ```
+///
+/// (Core specification, Binary format, Modules, Element Section.)
 impl<'a> Encode for Element<'a> {
     ghost use Rattle.wasm_base.specs.Item.{ReadsAs};
     ghost use Rattle.wasm_encode.specs.Elements.{ElementFits, element_placed};
