@@ -1,28 +1,34 @@
 -- The bytes of bundles of imports are read as the bundles.
-use Rattle.std.proofs.Common.{◌≡◌, ℕ, ◌+◌, ◌==◌, Bool, true, false, cond, List, [], ◌∷◌, ◌++◌, length, Ok}
+use Rattle.std.proofs.Common.{◌≡◌, ℕ, ◌+◌, ◌<◌, ◌^◌, ◌==◌, Bool, true, false, cond, List, [], ◌∷◌, ◌++◌, length, Ok, All, map}
 use Rattle.std.proofs.Common.{arith, ap, ◌∙◌, refl, subst, append_assoc, length-append}
+use Rattle.std.proofs.lemmas.List.Elements.{All-head, All-tail}
 use Rattle.std.specs.Str.{chars, is_utf8}
 use Rattle.wasm_base.specs.Item.{ReadsAs}
 use Rattle.wasm_base.specs.Leading.{lookup_or}
 use Rattle.wasm_base.specs.Outcome.{Outcome}
-use Rattle.wasm_base.specs.Section.{Section}
+use Rattle.wasm_base.specs.Section.{ItemsOf, Section, as_read}
 use Rattle.wasm_base.specs.Skip.{skipped_name_at}
 use Rattle.wasm_base.specs.Window.{Place}
+use Rattle.wasm_base.specs.declared.fault.NumberKind.TheVariants.{VarU32}
 use Rattle.wasm_encode.specs.Bundles.{BundleAllowed, BundleFits, ModuleAllowed, ModuleTypeAllowed, ModuleTypeFits, PartsFit}
 use Rattle.wasm_encode.specs.Bundles.{bundle_bytes, bundle_placed, for_features, module_bytes, module_type_bytes, names_bytes}
+use Rattle.wasm_encode.specs.Bundles.{ReadsAsSingles, singles_placed}
 use Rattle.wasm_encode.specs.Imports.{ImportFits, TypeRefAllowed, import_bytes, type_ref_bytes}
 use Rattle.wasm_encode.specs.Limits.{global_type_bytes, memory_type_bytes, table_type_bytes, tag_type_bytes}
 use Rattle.wasm_encode.specs.Lists.{list_bytes, list_placed}
 use Rattle.wasm_encode.specs.Names.{NameFits, name_bytes}
 use Rattle.wasm_encode.specs.Numbers.{unsigned_bytes}
 use Rattle.wasm_encode.specs.ReadsBack.{spot, Encodes}
+use Rattle.wasm_encode.specs.Sections.{items_bytes}
 use Rattle.wasm_encode.proofs.CopiedTypes.{copies_item, same_limits}
 use Rattle.wasm_encode.proofs.Copies.{Same}
 use Rattle.wasm_encode.proofs.ImportsBack.{reads_type_ref}
 use Rattle.wasm_encode.proofs.ListsBack.{copies_name, kept_list, list_back}
 use Rattle.wasm_encode.proofs.NamesBack.{reads_name}
+use Rattle.wasm_encode.proofs.NumbersBack.{unsigned_at_spot}
 use Rattle.wasm_items.specs.Imports.{Bundle, ImportParts, bundle_parts, import_parts, single, of_module, of_type, skipped_item_at}
 use Rattle.wasm_items.specs.Imports.{bundle_after_names, bundle_at, module_bundle_at, single_at, type_bundle_at, type_ref_at}
+use Rattle.wasm_items.specs.declared.imports.Import.{Import}
 use Rattle.wasm_items.specs.declared.imports.Imports.{Imports}
 use Rattle.wasm_items.specs.declared.imports.Imports.TheVariants.{Single, Compact1, Compact2}
 use Rattle.wasm_items.specs.declared.imports.TypeRef.{TypeRef}
@@ -180,3 +186,30 @@ bundle_back (Compact2 from ty names) features offset later h a =
 pub bundle_encodes : (x : Imports) (features : ℕ) → BundleFits (bundle_parts x) → BundleAllowed features (bundle_parts x)
     → Encodes (ReadsAs bundle_parts bundle_at) features (λ (offset : ℕ). bundle_placed features offset x) (bundle_bytes (bundle_parts x))
 bundle_encodes x features h a = record { read = λ offset later. bundle_back x features offset later h.parts a }
+
+-- ---- imports that are written as such
+
+pub singles_back : (imports : List Import) (features offset : ℕ) → All (λ i. ImportFits (import_parts i)) imports
+    → All (λ i. TypeRefAllowed features i.ty) imports
+    → ItemsOf (ReadsAs bundle_parts bundle_at) (length imports)
+    (spot features offset (items_bytes (λ i. import_bytes (import_parts i)) imports)) (map as_read (singles_placed offset imports))
+singles_back [] features offset fit allowed = refl
+singles_back (i ∷ is) features offset fit allowed =
+    let after : ℕ = offset + length (import_bytes (import_parts i)) in
+    let rest : List ℕ = items_bytes (λ j. import_bytes (import_parts j)) is in (
+      spot features after rest,
+      single_back (import_parts i) features offset rest (All-head (λ j. ImportFits (import_parts j)) i is fit)
+          (All-head (λ j. TypeRefAllowed features j.ty) i is allowed),
+      singles_back is features after (All-tail (λ j. ImportFits (import_parts j)) i is fit)
+          (All-tail (λ j. TypeRefAllowed features j.ty) i is allowed),
+    )
+
+pub reads_as_singles : (imports : List Import) (features offset : ℕ) → length imports < 2 ^ 32
+    → All (λ i. ImportFits (import_parts i)) imports → All (λ i. TypeRefAllowed features i.ty) imports
+    → ReadsAsSingles features offset imports
+reads_as_singles imports features offset few fit allowed =
+    let encoded : Import → List ℕ = λ i. import_bytes (import_parts i) in
+    record {
+      count = unsigned_at_spot VarU32 features offset (length imports) (items_bytes encoded imports) refl few;
+      items = singles_back imports features (offset + length (unsigned_bytes (length imports))) fit allowed;
+    }

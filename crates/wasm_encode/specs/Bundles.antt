@@ -1,13 +1,21 @@
 -- The bytes of bundles of imports. Core specification, Binary format, Modules, Import Section, and the proposal for
 -- compact imports.
-use Rattle.std.specs.Prelude.{ℕ, ◌+◌, ◌<◌, ◌^◌, IsTrue, List, [], ◌∷◌, ◌++◌, length}
+use Rattle.std.specs.Prelude.{◌≡◌, ℕ, ◌+◌, ◌<◌, ◌^◌, IsTrue, List, [], ◌∷◌, ◌++◌, length, Ok, map}
 use Rattle.wasm_base.specs.Features.{takes_import_bundles}
-use Rattle.wasm_base.specs.Section.{Section}
+use Rattle.wasm_base.specs.Item.{ReadsAs}
+use Rattle.wasm_base.specs.Number.{unsigned_at}
+use Rattle.wasm_base.specs.Section.{ItemsOf, Section, as_read}
 use Rattle.wasm_base.specs.Skip.{skipped_name_at}
+use Rattle.wasm_base.specs.declared.fault.NumberKind.TheVariants.{VarU32}
 use Rattle.wasm_encode.specs.Imports.{ImportFits, TypeRefAllowed, TypeRefFits, import_bytes, type_ref_bytes}
 use Rattle.wasm_encode.specs.Lists.{IsList, list_bytes, list_placed}
 use Rattle.wasm_encode.specs.Names.{NameFits, name_bytes}
+use Rattle.wasm_encode.specs.Numbers.{unsigned_bytes}
+use Rattle.wasm_encode.specs.ReadsBack.{spot}
+use Rattle.wasm_encode.specs.Sections.{content_bytes, items_bytes}
+use Rattle.wasm_items.specs.Imports.{bundle_at, bundle_parts, import_parts}
 use Rattle.wasm_items.specs.Imports.{Bundle, single, of_module, of_type, skipped_item_at}
+use Rattle.wasm_items.specs.declared.imports.Import.{Import}
 use Rattle.wasm_items.specs.declared.imports.Imports.{Imports}
 use Rattle.wasm_items.specs.declared.imports.Imports.TheVariants.{Single, Compact1, Compact2}
 use Rattle.wasm_items.specs.declared.imports.TypeRef.{TypeRef}
@@ -78,3 +86,25 @@ bundle_placed features offset (Compact1 from items) =
     Compact1 from (list_placed features (offset + length (module_bytes from.now)) items)
 bundle_placed features offset (Compact2 from ty names) =
     Compact2 from ty (list_placed features (offset + length (module_type_bytes from.now ty)) names)
+
+-- imports as they are read by readers of bundles, the first one at this offset: each is single, with its offset
+abbrev pub singles_placed : (offset : ℕ) → List Import → List Imports
+singles_placed offset [] = []
+singles_placed offset (i ∷ is) =
+    Single offset i ∷ singles_placed (offset + length (import_bytes (import_parts i))) is
+
+-- | the content of a section of imports is read by readers of bundles as its count and exactly these imports, each at
+--   its offset, with nothing after them [`singles_placed`] <Import Section>
+-- The content of a section of imports, at an offset, is read by readers of bundles as its count and exactly these
+-- imports, with nothing after them.
+pub record ReadsAsSingles (features offset : ℕ) (imports : List Import) : Type 0 where
+  pub count : unsigned_at VarU32 (spot features offset (content_bytes (λ i. import_bytes (import_parts i)) imports))
+      ≡ Ok (
+        length imports,
+        spot features (offset + length (unsigned_bytes (length imports)))
+            (items_bytes (λ i. import_bytes (import_parts i)) imports),
+      )
+  pub items : ItemsOf (ReadsAs bundle_parts bundle_at) (length imports)
+      (spot features (offset + length (unsigned_bytes (length imports)))
+      (items_bytes (λ i. import_bytes (import_parts i)) imports))
+      (map as_read (singles_placed (offset + length (unsigned_bytes (length imports))) imports))

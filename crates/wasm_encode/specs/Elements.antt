@@ -1,6 +1,7 @@
 -- The bytes of element segments. Core specification, Binary format, Modules, Element Section.
 use Rattle.std.specs.Prelude.{◌≡◌, ℕ, ◌+◌, ◌<◌, ◌^◌, Bool, true, false, List, [], ◌∷◌, ◌++◌, length, Option, Some, None}
 use Rattle.wasm_base.specs.Inner.{after_reading}
+use Rattle.wasm_base.specs.Item.{ReadsAs}
 use Rattle.wasm_base.specs.Number.{unsigned_at}
 use Rattle.wasm_base.specs.Section.{Section}
 use Rattle.wasm_base.specs.declared.fault.NumberKind.TheVariants.{VarU32}
@@ -8,8 +9,9 @@ use Rattle.wasm_encode.specs.Expressions.{expression_bytes, expression_placed}
 use Rattle.wasm_encode.specs.Globals.{IsExpression}
 use Rattle.wasm_encode.specs.Limits.{IsBelow, maybe_number}
 use Rattle.wasm_encode.specs.Lists.{IsList, list_bytes, list_placed}
+use Rattle.wasm_encode.specs.Sections.{ItemsBack}
 use Rattle.wasm_encode.specs.Types.{HeapFits, ref_bytes}
-use Rattle.wasm_items.specs.Elements.{funcref}
+use Rattle.wasm_items.specs.Elements.{element_at, funcref}
 use Rattle.wasm_items.specs.Init.{end_of_expression}
 use Rattle.wasm_items.specs.Windows.{expression_window}
 use Rattle.wasm_items.specs.declared.elements.Element.{Element}
@@ -122,3 +124,11 @@ element_placed features offset x =
       items = elements_placed features (elements + length (type_bytes (has_type x.kind) x.items)) x.items;
       range = record { start = offset; end = offset + length (element_bytes x) };
     }
+
+-- | the content of a section of segments is read as its count and exactly these segments, each at its offset, with
+--   nothing after them <Element Section>
+-- The content of a section of segments, at an offset, is read as its count and exactly these segments, with nothing
+-- after them.
+abbrev pub ReadsAsSegments : (features offset : ℕ) → List Element → Type 0
+ReadsAsSegments features offset segments =
+    ItemsBack (ReadsAs (λ (x : Element). x) element_at) features offset element_bytes (element_placed features) segments

@@ -1,14 +1,15 @@
 // Bundles of imports.
-ghost use Rattle.std.specs.Prelude.{◌≡◌, ◌+◌, ◌≤◌, ◌<◌, ◌^◌, ◌++◌, ◌↔◌, [], IsTrue, drop, length, take};
-ghost use Rattle.wasm_encode.specs.Bundles.{BundleFits, PartsFit, bundle_bytes, names_bytes};
+ghost use Rattle.std.specs.Prelude.{◌≡◌, ℕ, ◌+◌, ◌≤◌, ◌<◌, ◌^◌, ◌++◌, ◌↔◌, [], All, IsTrue, drop, length, take};
+ghost use Rattle.wasm_encode.specs.Bundles.{BundleFits, PartsFit, ReadsAsSingles, bundle_bytes, names_bytes};
+ghost use Rattle.wasm_encode.specs.Imports.{ImportFits, TypeRefAllowed};
 ghost use Rattle.wasm_encode.specs.Names.{NameFits, name_bytes};
-ghost use Rattle.wasm_items.specs.Imports.{bundle_parts};
+ghost use Rattle.wasm_items.specs.Imports.{bundle_parts, import_parts};
 
 use crate::bytes::write_byte;
 use crate::encode::Encode;
 use crate::lists::{copied_len, is_list, write_copied};
 use crate::names::{name_fits, name_len, write_name};
-use wasm_items::Imports;
+use wasm_items::{Import, Imports};
 
 // Returns how many bytes the names of a bundle have, and the byte that says of which kind it is.
 #[tactic(auto, using(crate::proofs::BundlesBack::empty_fits))]
@@ -135,4 +136,17 @@ impl<'a> Encode for Imports<'a> {
     }
 
     fn reads_back(&self) {}
+}
+
+/// The content of an import section, at any offset, is read as its count and exactly these imports, each at its offset,
+/// also by readers of bundles, as `ImportSectionReader` is one. Does nothing.
+pub fn import_sections_read_as_bundles(imports: &[Import<'_>])
+    requires fits { All (λ i. ImportFits (import_parts i)) imports.now }
+    requires few { length imports.now < 2 ^ 32 }
+    // Proved: an import section that was written without bundles is read as exactly the given imports, each at its
+    //   offset, also by readers that know bundles
+    ensures { (features offset : ℕ) → All (λ i. TypeRefAllowed features i.ty) imports.now
+        → ReadsAsSingles features offset imports.now }
+{
+    let _imports = imports;
 }

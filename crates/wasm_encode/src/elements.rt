@@ -1,5 +1,6 @@
 // Element segments.
-ghost use Rattle.std.specs.Prelude.{◌≡◌, ℕ, ◌+◌, ◌≤◌, ◌<◌, ◌^◌, ◌++◌, ◌↔◌, IsTrue, Option, drop, length, take};
+ghost use Rattle.std.specs.Prelude.{◌≡◌, ℕ, ◌+◌, ◌≤◌, ◌<◌, ◌^◌, ◌++◌, ◌↔◌, All, IsTrue, Option, drop, length, take};
+ghost use Rattle.wasm_encode.specs.Elements.{ElementFits, ReadsAsSegments};
 ghost use Rattle.wasm_encode.specs.Elements.{ElementsFit, IsSpelled, KindFits, element_bytes, elements_bytes};
 ghost use Rattle.wasm_encode.specs.Elements.{elements_flag, has_type, kind_bytes, kind_flags, list_of, type_bytes};
 ghost use Rattle.wasm_encode.specs.Limits.{IsBelow};
@@ -11,6 +12,7 @@ use crate::expressions::bytes_of;
 use crate::globals::is_expression;
 use crate::limits::{maybe_len, write_maybe_number};
 use crate::lists::{copied_len, is_list, is_list_of_numbers, write_copied};
+use crate::sections::section_reads_back;
 use wasm_items::{Element, ElementItems, ElementKind, RefType};
 
 // Returns whether the index of a table is a number of 32 bits, as it always is.
@@ -245,7 +247,7 @@ fn element_len(segment: &Element<'_>) -> usize
 /// (Core specification, Binary format, Modules, Element Section.)
 impl<'a> Encode for Element<'a> {
     ghost use Rattle.wasm_base.specs.Item.{ReadsAs};
-    ghost use Rattle.wasm_encode.specs.Elements.{ElementFits, element_placed};
+    ghost use Rattle.wasm_encode.specs.Elements.{element_placed};
     ghost use Rattle.wasm_items.specs.Elements.{element_at};
 
     ghost meaning = { ReadsAs (λ element. element) element_at };
@@ -290,4 +292,15 @@ impl<'a> Encode for Element<'a> {
     }
 
     fn reads_back(&self) {}
+}
+
+/// The content of an element section, at any offset, is read as its count and exactly these segments, each at its offset.
+/// Does nothing.
+pub fn element_sections_read_back(segments: &[Element<'_>])
+    requires fits { All ElementFits segments.now }
+    requires few { length segments.now < 2 ^ 32 }
+    // Proved: an element section that was written is read as exactly the given segments, each at its offset
+    ensures { (features offset : ℕ) → ReadsAsSegments features offset segments.now }
+{
+    section_reads_back(segments)
 }

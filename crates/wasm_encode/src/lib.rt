@@ -54,9 +54,11 @@ mod target_features;
 mod texts;
 mod types;
 
+pub use bundles::import_sections_read_as_bundles;
 pub use code::code_sections_are_frames;
 pub use copied::types_are_copied;
 pub use custom::{custom_fits, custom_len, write_custom};
+pub use elements::element_sections_read_back;
 pub use encode::Encode;
 pub use expressions::{expression_fits, expression_len, expression_reads_back, write_expression};
 pub use lists::{list_len, write_list};
