@@ -1,34 +1,43 @@
 -- The bytes of what a linker reads are read as it.
-use Rattle.std.proofs.Common.{◌≡◌, ℕ, ◌+◌, ◌<◌, ◌^◌, List, [], ◌∷◌, ◌++◌, None, Ok, append_assoc, arith, length, length-append, refl}
+use Rattle.std.proofs.Common.{◌≡◌, ℕ, ◌+◌, ◌<◌, ◌^◌, List, [], ◌∷◌, ◌++◌, None, Some, Ok, append_assoc, arith, length}
+use Rattle.std.proofs.Common.{length-append, refl}
+use Rattle.std.proofs.lemmas.List.Elements.{All-cons, All-nil}
 use Rattle.wasm_base.specs.Inner.{after_reading}
 use Rattle.wasm_base.specs.Item.{ReadsAs}
 use Rattle.wasm_base.specs.Leading.{in_table}
-use Rattle.wasm_base.specs.Name.{text_at}
+use Rattle.wasm_base.specs.Name.{name_limit, text_at}
 use Rattle.wasm_base.specs.Number.{unsigned_at}
-use Rattle.wasm_base.specs.Outcome.{◌>>=◌}
+use Rattle.wasm_base.specs.Outcome.{Outcome, ◌>>=◌}
+use Rattle.wasm_base.specs.Window.{Place}
 use Rattle.wasm_base.specs.declared.fault.Lead.TheVariants as Leads
 use Rattle.wasm_base.specs.declared.fault.NumberKind.TheVariants.{VarU32}
 use Rattle.wasm_custom.specs.Linking.{SegmentParts, comdat_at, comdat_kind_at, comdat_kinds, comdat_parts, comdat_symbol_at}
-use Rattle.wasm_custom.specs.Linking.{init_function_at, segment_at, segment_parts}
+use Rattle.wasm_custom.specs.Linking.{init_function_at, linking_subsection_in, listed, segment_at, segment_parts}
 use Rattle.wasm_custom.specs.declared.linking.Comdat.{Comdat}
 use Rattle.wasm_custom.specs.declared.linking.ComdatSymbol.{ComdatSymbol}
 use Rattle.wasm_custom.specs.declared.linking.ComdatSymbolKind.{ComdatSymbolKind}
 use Rattle.wasm_custom.specs.declared.linking.ComdatSymbolKind.TheVariants as Kinds
 use Rattle.wasm_custom.specs.declared.linking.InitFunc.{InitFunc}
 use Rattle.wasm_custom.specs.declared.linking.Segment.{Segment}
+use Rattle.wasm_encode.specs.Linking.{ArchBack, LinkingReadsBack}
 use Rattle.wasm_encode.specs.Linking.{ComdatFits, InitFunctionFits, SegmentFits, comdat_bytes, comdat_kind_byte, comdat_placed}
 use Rattle.wasm_encode.specs.Linking.{comdat_symbol_bytes}
 use Rattle.wasm_encode.specs.Linking.{init_function_bytes, segment_bytes}
 use Rattle.wasm_encode.specs.Lists.{list_bytes}
-use Rattle.wasm_encode.specs.Names.{name_bytes}
+use Rattle.wasm_encode.specs.Names.{NameFits, name_bytes}
 use Rattle.wasm_encode.specs.Numbers.{unsigned_bytes}
 use Rattle.wasm_encode.specs.ReadsBack.{Encodes}
+use Rattle.wasm_encode.specs.Sections.{content_bytes}
+use Rattle.wasm_encode.specs.Subsections.{ListReadsBack, content_section, content_window}
 use Rattle.wasm_encode.proofs.CopiedExpressions.{unsigned}
 use Rattle.wasm_encode.proofs.ImportsBack.{reads_u32}
+use Rattle.wasm_encode.proofs.Lengths.{name_few}
 use Rattle.wasm_encode.proofs.ListsBack.{copies_skip, copies_table, list_back}
 use Rattle.wasm_encode.proofs.Moves.{Copies, in_turn, nothing}
+use Rattle.wasm_encode.proofs.NamesBack.{reads_name}
 use Rattle.wasm_encode.proofs.NumbersBack.{unsigned_at_spot}
 use Rattle.wasm_encode.proofs.Readings.{Reads, encodes_so, reads_as, reads_then, same_spot}
+use Rattle.wasm_encode.proofs.SubsectionsBack.{framed, window_read}
 use Rattle.wasm_encode.proofs.TextsBack.{reads_text}
 
 reads_segment : (x : SegmentParts) (features : ℕ) → SegmentFits x → Reads segment_at features x (segment_bytes x)
@@ -116,3 +125,31 @@ comdat_encodes x features h = record {
       (same_spot features (there + length symbols) (offset + length (name ++ (flags ++ symbols)))
       (comdat_parts (comdat_placed features offset x)) later e);
 }
+
+-- ---- subsections
+
+pub linking_back : {T : Type 0} (meaning : Place → Outcome T → Type 0) (is_allowed : ℕ → T → Type 0) (encoded : T → List ℕ)
+    (placed : ℕ → ℕ → T → T) (xs : List T) → ListReadsBack meaning is_allowed encoded placed xs
+    → LinkingReadsBack meaning is_allowed encoded placed xs
+unfolding linking_subsection_in
+linking_back meaning is_allowed encoded placed xs back features offset allowed =
+    let section = (back features offset 5 (omega arith) allowed).section in
+    let P = λ (id : ℕ). linking_subsection_in id (content_window features offset (content_bytes encoded xs))
+    ≡ Ok (listed id (content_section features offset encoded xs)) in
+    record {
+      list = λ id small. back features offset id small allowed;
+      read = All-cons P 5 (6 ∷ 7 ∷ 8 ∷ []) (rw section refl)
+          (All-cons P 6 (7 ∷ 8 ∷ []) (rw section refl)
+          (All-cons P 7 (8 ∷ []) (rw section refl)
+          (All-cons P 8 [] (rw section refl) (All-nil P))));
+    }
+
+pub arch_back : (name : List ℕ) (features offset : ℕ) → NameFits name → ArchBack features offset name
+unfolding linking_subsection_in
+arch_back name features offset h =
+    let fewer = name_few name h in
+    let few : length (name_bytes name) < 2 ^ 32 = omega (arith, fewer) in
+    record {
+      frame = framed features offset 9 (name_bytes name) (omega arith) few;
+      read = rw (window_read (text_at (Some name_limit)) features offset (name_bytes name) name (reads_name name features h)) refl;
+    }

@@ -1,5 +1,5 @@
 -- The bytes of names are read as the names.
-use Rattle.std.proofs.Common.{◌≡◌, ℕ, ◌+◌, ◌<◌, ◌^◌, List, [], ◌∷◌, ◌++◌, None, Ok, Some, ap, append-nil, append_assoc, arith}
+use Rattle.std.proofs.Common.{◌≡◌, ℕ, ◌+◌, ◌<◌, ◌^◌, List, [], ◌∷◌, ◌++◌, None, Ok, Some, ap, append_assoc, arith}
 use Rattle.std.proofs.Common.{length, length-append, map, refl, subst}
 use Rattle.std.proofs.lemmas.List.Elements.{All-cons, All-nil}
 use Rattle.wasm_base.specs.Ascending.{NextAscending, none_given}
@@ -22,7 +22,7 @@ use Rattle.wasm_encode.specs.Names.{NameFits, name_bytes}
 use Rattle.wasm_encode.specs.Namings.{IndirectFits, MapBack, ModuleNameBack, NamingFits, indirect_bytes, indirect_placed}
 use Rattle.wasm_encode.specs.Namings.{map_content, map_section, names_of, naming_bytes}
 use Rattle.wasm_encode.specs.Numbers.{unsigned_bytes}
-use Rattle.wasm_encode.specs.ReadsBack.{Encodes, spot}
+use Rattle.wasm_encode.specs.ReadsBack.{Encodes}
 use Rattle.wasm_encode.specs.Sections.{placed_items}
 use Rattle.wasm_encode.specs.Subsections.{ListReadsBack, content_offset, content_window, items_offset}
 use Rattle.wasm_encode.proofs.CopiedExpressions.{unsigned}
@@ -34,7 +34,7 @@ use Rattle.wasm_encode.proofs.NameMapsBack.{run}
 use Rattle.wasm_encode.proofs.NamesBack.{reads_name}
 use Rattle.wasm_encode.proofs.NumbersBack.{unsigned_at_spot}
 use Rattle.wasm_encode.proofs.Readings.{Reads, encodes_so, reads_as, reads_then, same_spot}
-use Rattle.wasm_encode.proofs.SubsectionsBack.{framed}
+use Rattle.wasm_encode.proofs.SubsectionsBack.{framed, window_read}
 use Rattle.wasm_encode.proofs.TextsBack.{reads_text}
 
 reads_naming : (n : NamingParts) (features : ℕ) → NamingFits n → Reads naming_at features n (naming_bytes n)
@@ -83,14 +83,10 @@ module_name_back text features offset h =
     let content : List ℕ = name_bytes text in
     let fewer = name_few text h in
     let few : length content < 2 ^ 32 = omega (arith, fewer) in
-    let there : ℕ = content_offset offset content in
-    let e : there + 0 ≡ there = omega arith in
-    let read : text_at (Some name_limit) (spot features there content) ≡ Ok (text, spot features (there + length content) []) =
-    subst (λ (bytes : List ℕ). text_at (Some name_limit) (spot features there bytes) ≡ Ok (text, spot features (there + length content) []))
-    (append-nil content) ((reads_name text features h).at there []) in
+    let e : content_offset offset content + 0 ≡ content_offset offset content = omega arith in
     record {
       frame = framed features offset 0 content (omega arith) few;
-      name = rw (e, read) refl;
+      name = rw (window_read (text_at (Some name_limit)) features offset content text (reads_name text features h)) (rw e refl);
     }
 
 -- ---- name maps

@@ -1,10 +1,12 @@
 -- The bytes of relocations are read as the relocations.
-use Rattle.std.proofs.Common.{ℕ, ℤ, pos, [], ◌∷◌, ◌++◌, Ok, refl, sym, subst}
+use Rattle.std.proofs.Common.{◌≡◌, ℕ, ◌+◌, ◌<◌, ◌^◌, ℤ, pos, List, [], ◌∷◌, ◌++◌, Ok, ap, arith, length, map, refl, sym, subst}
 use Rattle.wasm_base.specs.Item.{ReadsAs}
 use Rattle.wasm_base.specs.Number.{unsigned_at}
 use Rattle.wasm_base.specs.Outcome.{◌>>=◌}
+use Rattle.wasm_base.specs.Section.{ItemsOf, as_read}
+use Rattle.wasm_base.specs.Window.{place}
 use Rattle.wasm_base.specs.declared.fault.NumberKind.TheVariants.{VarU32, VarI32, VarI64}
-use Rattle.wasm_custom.specs.Reloc.{addend_at, addend_of, number_of, relocation_at, relocation_type_at}
+use Rattle.wasm_custom.specs.Reloc.{addend_at, addend_of, number_of, reloc_section_in, relocation_at, relocation_type_at}
 use Rattle.wasm_custom.specs.declared.reloc.RelocAddendKind.{RelocAddendKind}
 use Rattle.wasm_custom.specs.declared.reloc.RelocAddendKind.TheVariants as Addends
 use Rattle.wasm_custom.specs.declared.reloc.RelocationEntry.{RelocationEntry}
@@ -12,10 +14,12 @@ use Rattle.wasm_custom.specs.declared.reloc.RelocationType.{RelocationType}
 use Rattle.wasm_custom.specs.declared.reloc.RelocationType.TheVariants as Types
 use Rattle.wasm_encode.specs.Numbers.{unsigned_bytes}
 use Rattle.wasm_encode.specs.ReadsBack.{Encodes}
-use Rattle.wasm_encode.specs.Reloc.{AddendFits, RelocationFits, addend_bytes, relocation_bytes}
+use Rattle.wasm_encode.specs.Reloc.{AddendFits, RelocBack, RelocationFits, addend_bytes, reloc_entries, relocation_bytes}
+use Rattle.wasm_encode.specs.Sections.{ItemsBack, content_bytes, placed_items}
 use Rattle.wasm_encode.proofs.ImportsBack.{reads_u32}
-use Rattle.wasm_encode.proofs.NumbersBack.{signed_at_spot}
+use Rattle.wasm_encode.proofs.NumbersBack.{signed_at_spot, unsigned_at_spot}
 use Rattle.wasm_encode.proofs.Readings.{Reads, encodes_so, reads_as, reads_nothing, reads_then}
+use Rattle.wasm_encode.proofs.SubsectionsBack.{section_items, section_read}
 
 reads_type : (ty : RelocationType) (features : ℕ) → Reads relocation_type_at features ty (number_of ty ∷ [])
 unfolding relocation_type_at
@@ -76,3 +80,30 @@ reads_relocation x features h =
 pub relocation_encodes : (x : RelocationEntry) (features : ℕ) → RelocationFits x
     → Encodes (ReadsAs (λ (y : RelocationEntry). y) relocation_at) features (λ (offset : ℕ). x) (relocation_bytes x)
 relocation_encodes x features h = encodes_so (λ y. y) relocation_at features x (relocation_bytes x) (reads_relocation x features h)
+
+-- ---- the relocations of a section
+
+-- Relocations are read as they are, wherever they are.
+same_relocations : (offset : ℕ) (xs : List RelocationEntry) → placed_items relocation_bytes (λ (o : ℕ) x. x) offset xs ≡ xs
+same_relocations offset [] = refl
+same_relocations offset (x ∷ xs) = ap (λ (ys : List RelocationEntry). x ∷ ys) (same_relocations (offset + length (relocation_bytes x)) xs)
+
+pub reloc_back : (index : ℕ) (xs : List RelocationEntry) (features offset : ℕ) → index < 2 ^ 32
+    → ItemsBack (ReadsAs (λ (x : RelocationEntry). x) relocation_at) features (offset + length (unsigned_bytes index)) relocation_bytes
+    (λ (o : ℕ) x. x) xs
+    → RelocBack features offset index xs
+unfolding reloc_section_in
+reloc_back index xs features offset h back =
+    let there : ℕ = offset + length (unsigned_bytes index) in
+    let n : offset + 0 ≡ offset = omega arith in
+    record {
+      section = rw (
+        n,
+        unsigned_at_spot VarU32 features offset index (content_bytes relocation_bytes xs) refl h,
+        section_read (ReadsAs (λ (x : RelocationEntry). x) relocation_at) features there relocation_bytes (λ (o : ℕ) x. x) xs back,
+      ) refl;
+      entries = subst (λ (ys : List RelocationEntry). ItemsOf (ReadsAs (λ (x : RelocationEntry). x) relocation_at) (length xs)
+          (place (reloc_entries features offset index xs).reader) (map as_read ys))
+          (same_relocations (there + length (unsigned_bytes (length xs))) xs)
+          (section_items (ReadsAs (λ (x : RelocationEntry). x) relocation_at) features there relocation_bytes (λ (o : ℕ) x. x) xs back);
+    }

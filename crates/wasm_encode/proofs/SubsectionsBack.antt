@@ -1,22 +1,22 @@
 -- The bytes of subsections are read as the subsections.
 use Rattle.std.proofs.Common.{◌≡◌, ℕ, ◌+◌, ◌<◌, ◌^◌, List, [], ◌++◌, Ok, append-nil, append_assoc, arith, length}
-use Rattle.std.proofs.Common.{◌-◌, ap, length-append, map, refl, subst, sym}
+use Rattle.std.proofs.Common.{◌-◌, ap, length-append, map, refl, subst, sym, ◌∙◌}
 use Rattle.std.proofs.Math.Seq.{drop-append_seam}
 use Rattle.std.proofs.lemmas.Bool.{lt-ltb}
 use Rattle.wasm_base.specs.Name.{u7_at, window_at}
 use Rattle.wasm_base.specs.Outcome.{Outcome}
-use Rattle.wasm_base.specs.Section.{ItemsOf, as_read, section_in}
+use Rattle.wasm_base.specs.Section.{ItemsOf, as_read, section_after, section_in}
 use Rattle.wasm_base.specs.Subsections.{subsection_at}
 use Rattle.wasm_base.specs.Window.{Place, place, window_over}
 use Rattle.wasm_base.specs.declared.fault.NumberKind.TheVariants.{VarU32}
 use Rattle.wasm_encode.specs.Numbers.{unsigned_bytes}
 use Rattle.wasm_encode.specs.ReadsBack.{spot}
 use Rattle.wasm_encode.specs.Sections.{IsReadBack, ItemsBack, content_bytes, items_bytes, placed_items}
-use Rattle.wasm_encode.specs.Subsections.{IsSubsection, ItemBack, ListBack, content_offset, content_section, content_window}
-use Rattle.wasm_encode.specs.Subsections.{items_offset, subsection_bytes}
+use Rattle.wasm_encode.specs.Subsections.{IsSubsection, ItemBack, ListBack, content_offset, content_window}
+use Rattle.wasm_encode.specs.Subsections.{subsection_bytes}
 use Rattle.wasm_encode.proofs.CopiedExpressions.{bytes_back}
 use Rattle.wasm_encode.proofs.NumbersBack.{unsigned_at_spot}
-use Rattle.wasm_encode.proofs.Readings.{same_spot}
+use Rattle.wasm_encode.proofs.Readings.{Reads, same_spot}
 
 -- a size and as many bytes
 window_back : (features offset : ℕ) (content later : List ℕ) → length content < 2 ^ 32
@@ -62,33 +62,55 @@ item_back meaning features offset id encoded is_allowed placed x small h back al
     }
 
 -- a window that is made of bytes begins with them
-pub window_place : (features offset : ℕ) (content : List ℕ)
+window_place : (features offset : ℕ) (content : List ℕ)
     → place (content_window features offset content) ≡ spot features (content_offset offset content) content
 window_place features offset content =
     let e : content_offset offset content + 0 ≡ content_offset offset content = omega arith in
     ap (λ (k : ℕ). spot features k content) e
 
-section_read : {T : Type 0} (meaning : Place → Outcome T → Type 0) (features offset : ℕ) (encoded : T → List ℕ) (placed : ℕ → T → T)
-    (xs : List T) → ItemsBack meaning features (content_offset offset (content_bytes encoded xs)) encoded placed xs
-    → section_in (content_window features offset (content_bytes encoded xs)) ≡ Ok (content_section features offset encoded xs)
+-- what a window is read as that is made of bytes
+pub window_read : {A : Type 0} (reading : Place → Outcome A) (features offset : ℕ) (content : List ℕ) (x : A)
+    → Reads reading features x content
+    → reading (place (content_window features offset content))
+    ≡ Ok (x, spot features (content_offset offset content + length content) [])
+window_read reading features offset content x r =
+    let there : ℕ = content_offset offset content in
+    ap reading (window_place features offset content)
+    ∙ subst (λ (bytes : List ℕ). reading (spot features there bytes) ≡ Ok (x, spot features (there + length content) []))
+    (append-nil content) (r.at there [])
+
+-- a window of a count and items is a section
+pub section_read : {T : Type 0} (meaning : Place → Outcome T → Type 0) (features there : ℕ) (encoded : T → List ℕ) (placed : ℕ → T → T)
+    (xs : List T) → ItemsBack meaning features there encoded placed xs
+    → section_in (window_over features there (content_bytes encoded xs)) ≡ Ok (section_after
+    (record (window_over features there (content_bytes encoded xs)) { position = length (unsigned_bytes (length xs)) }) (length xs))
 unfolding section_in
-section_read meaning features offset encoded placed xs back =
-    let there : ℕ = content_offset offset (content_bytes encoded xs) in
+section_read meaning features there encoded placed xs back =
     let size : ℕ = length (unsigned_bytes (length xs)) in
     let n : there + 0 ≡ there = omega arith in
     let d : 0 + (there + size - there) ≡ size = omega arith in
     rw (n, back.count) (rw d refl)
+
+-- and its items are these
+pub section_items : {T : Type 0} (meaning : Place → Outcome T → Type 0) (features there : ℕ) (encoded : T → List ℕ) (placed : ℕ → T → T)
+    (xs : List T) → ItemsBack meaning features there encoded placed xs
+    → ItemsOf meaning (length xs)
+    (place (record (window_over features there (content_bytes encoded xs)) { position = length (unsigned_bytes (length xs)) }))
+    (map as_read (placed_items encoded placed (there + length (unsigned_bytes (length xs))) xs))
+section_items meaning features there encoded placed xs back =
+    let size : List ℕ = unsigned_bytes (length xs) in
+    subst (λ (bytes : List ℕ). ItemsOf meaning (length xs) (spot features (there + length size) bytes)
+    (map as_read (placed_items encoded placed (there + length size) xs)))
+    (sym (drop-append_seam size (items_bytes encoded xs))) back.items
 
 pub list_back : {T : Type 0} (meaning : Place → Outcome T → Type 0) (features offset id : ℕ) (encoded : T → List ℕ) (placed : ℕ → T → T)
     (xs : List T) → id < 128 → length (content_bytes encoded xs) < 2 ^ 32
     → ItemsBack meaning features (content_offset offset (content_bytes encoded xs)) encoded placed xs
     → ListBack meaning features offset id encoded placed xs
 list_back meaning features offset id encoded placed xs small h back =
-    let there : ℕ = items_offset offset encoded xs in
+    let there : ℕ = content_offset offset (content_bytes encoded xs) in
     record {
       frame = framed features offset id (content_bytes encoded xs) small h;
-      section = section_read meaning features offset encoded placed xs back;
-      items = subst (λ (bytes : List ℕ). ItemsOf meaning (length xs) (spot features there bytes)
-          (map as_read (placed_items encoded placed there xs)))
-          (sym (drop-append_seam (unsigned_bytes (length xs)) (items_bytes encoded xs))) back.items;
+      section = section_read meaning features there encoded placed xs back;
+      items = section_items meaning features there encoded placed xs back;
     }

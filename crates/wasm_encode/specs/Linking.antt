@@ -1,7 +1,9 @@
 -- The bytes of what a linker reads. Tool conventions, Linking, Linking Metadata Section.
-use Rattle.std.specs.Prelude.{ℕ, ◌+◌, ◌<◌, ◌^◌, List, ◌∷◌, ◌++◌, length}
+use Rattle.std.specs.Prelude.{◌≡◌, ℕ, ◌+◌, ◌<◌, ◌^◌, List, [], ◌∷◌, ◌++◌, length, Ok, All}
 use Rattle.wasm_base.specs.Inner.{after_reading}
-use Rattle.wasm_custom.specs.Linking.{ComdatParts, SegmentParts, comdat_symbol_at}
+use Rattle.wasm_base.specs.Outcome.{Outcome}
+use Rattle.wasm_base.specs.Window.{Place}
+use Rattle.wasm_custom.specs.Linking.{ComdatParts, SegmentParts, arch, comdat_symbol_at, linking_subsection_in, listed}
 use Rattle.wasm_custom.specs.declared.linking.Comdat.{Comdat}
 use Rattle.wasm_custom.specs.declared.linking.ComdatSymbol.{ComdatSymbol}
 use Rattle.wasm_custom.specs.declared.linking.ComdatSymbolKind.{ComdatSymbolKind}
@@ -10,6 +12,8 @@ use Rattle.wasm_custom.specs.declared.linking.InitFunc.{InitFunc}
 use Rattle.wasm_encode.specs.Lists.{IsList, list_bytes, list_placed}
 use Rattle.wasm_encode.specs.Names.{name_bytes}
 use Rattle.wasm_encode.specs.Numbers.{unsigned_bytes}
+use Rattle.wasm_encode.specs.Sections.{content_bytes}
+use Rattle.wasm_encode.specs.Subsections.{IsSubsection, ListBack, content_section, content_window}
 use Rattle.wasm_encode.specs.Texts.{TextFits}
 
 -- | the bytes of a segment, a function that is called at startup, and a comdat and its symbols, which are a list that
@@ -62,3 +66,29 @@ comdat_placed features offset x = record {
   flags = x.flags;
   symbols = list_placed features (offset + length (name_bytes x.name.now) + length (unsigned_bytes x.flags)) x.symbols;
 }
+
+-- ---- subsections
+
+-- the ids of the subsections that are lists: of segments, startup functions, comdats and symbols
+abbrev pub list_ids : List ℕ
+list_ids = 5 ∷ 6 ∷ 7 ∷ 8 ∷ []
+
+-- | a subsection of `linking` that is a list is read as its id and exactly its items; that of an architecture as its
+--   name [`LinkingReadsBack`, `list_ids`; `ArchBack`] <tool conventions, Linking>
+-- A subsection that is a list is read as exactly these items, and for each id of a list as this list.
+pub record LinkingBack {T : Type 0} (meaning : Place → Outcome T → Type 0) (features offset : ℕ) (encoded : T → List ℕ)
+    (placed : ℕ → T → T) (xs : List T) : Type 0 where
+  pub list : (id : ℕ) → id < 128 → ListBack meaning features offset id encoded placed xs
+  pub read : All (λ id. linking_subsection_in id (content_window features offset (content_bytes encoded xs))
+      ≡ Ok (listed id (content_section features offset encoded xs))) list_ids
+
+-- This is so at every offset, by readers that allow each item.
+abbrev pub LinkingReadsBack : {T : Type 0} → (Place → Outcome T → Type 0) → (is_allowed : ℕ → T → Type 0)
+    → (encoded : T → List ℕ) → (placed : ℕ → ℕ → T → T) → List T → Type 0
+LinkingReadsBack meaning is_allowed encoded placed xs = (features offset : ℕ) → All (is_allowed features) xs
+    → LinkingBack meaning features offset encoded (placed features) xs
+
+-- The subsection of an architecture is read as its name.
+pub record ArchBack (features offset : ℕ) (name : List ℕ) : Type 0 where
+  pub frame : IsSubsection features offset 9 (name_bytes name)
+  pub read : linking_subsection_in 9 (content_window features offset (name_bytes name)) ≡ Ok (arch name)

@@ -89,7 +89,8 @@ all_given xs = map (λ x. Ok x) xs
 --   Maps>
 -- The subsection of a name map is read as its id and a window, this for each id of a map as the map, and the map as
 -- exactly these entries, with nothing after them.
--- If their indices ascend, iterating over the map, by the relation that each call of `next` meets, returns exactly them.
+-- If their indices ascend, iterating over the map, by the relation that each call of `next` meets, returns exactly
+-- them.
 pub record MapBack (next : Ascending Items → Option (Result Naming Error) → Ascending Items → Type 0)
     (features offset : ℕ) (xs : List Naming) : Type 0 where
   pub frame : (id : ℕ) → id < 128 → IsSubsection features offset id (map_content xs)

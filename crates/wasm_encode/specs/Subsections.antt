@@ -26,7 +26,9 @@ content_window features offset content = window_over features (content_offset of
 -- the section that the content of a subsection is, if it is a list: its reader is after the count
 abbrev pub content_section : {T : Type 0} → (features offset : ℕ) → (encoded : T → List ℕ) → List T → Section
 content_section features offset encoded xs = section_after
-    (record (content_window features offset (content_bytes encoded xs)) { position = length (unsigned_bytes (length xs)) })
+    (record (content_window features offset (content_bytes encoded xs)) {
+      position = length (unsigned_bytes (length xs));
+    })
     (length xs)
 
 -- where the first of its items is
@@ -53,8 +55,8 @@ pub record ItemBack {T : Type 0} (meaning : Place → Outcome T → Type 0) (fea
         spot features (content_offset offset (encoded x) + length (encoded x)) [],
       ))
 
--- The subsection of counted items is read as its id and a window, the window as a section, and that as these items, with
--- nothing after them.
+-- The subsection of counted items is read as its id and a window, the window as a section, and that as these items,
+-- with nothing after them.
 pub record ListBack {T : Type 0} (meaning : Place → Outcome T → Type 0) (features offset id : ℕ) (encoded : T → List ℕ)
     (placed : ℕ → T → T) (xs : List T) : Type 0 where
   pub frame : IsSubsection features offset id (content_bytes encoded xs)

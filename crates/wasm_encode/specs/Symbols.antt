@@ -70,7 +70,8 @@ RestFits (section_symbol flags section) = section < 2 ^ 32
 -- | the bytes of a symbol: the byte of its kind, its flags, and then an index and a name, a name and a location, or the
 --   index of a section; whether it fits: its name and its location are there exactly if its flags say so
 --   [`symbol_bytes`, `symbol_kind`, `symbol_flags`, `symbol_rest`, `maybe_name`, `maybe_place`, `place_bytes`;
---   `SymbolFits`, `RestFits`, `NameMatches`, `PlaceMatches`, `PlaceFits`] <tool conventions, Linking, Symbol Table Subsection>
+--   `SymbolFits`, `RestFits`, `NameMatches`, `PlaceMatches`, `PlaceFits`] <tool conventions, Linking, Symbol Table
+--   Subsection>
 -- a symbol: the byte of its kind, its flags, and what follows them
 unfoldable pub symbol_bytes : SymbolParts → List ℕ
 symbol_bytes x = symbol_kind x ∷ (unsigned_bytes (symbol_flags x) ++ symbol_rest x)

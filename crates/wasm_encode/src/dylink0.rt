@@ -1,7 +1,10 @@
 // What a dynamic linker reads.
-ghost use Rattle.std.specs.Prelude.{◌≡◌, ◌+◌, ◌≤◌, ◌<◌, ◌^◌, ◌++◌, ◌↔◌, IsTrue, length, take};
+ghost use Rattle.std.specs.Prelude.{◌≡◌, ℕ, ◌+◌, ◌≤◌, ◌<◌, ◌^◌, ◌++◌, ◌↔◌, IsTrue, length, take};
 ghost use Rattle.wasm_custom.specs.Dylink0.{export_info_parts, import_info_parts};
-ghost use Rattle.wasm_encode.specs.Dylink0.{export_info_bytes, import_info_bytes};
+ghost use Rattle.wasm_encode.specs.Dylink0.{ArchBack, ExportInfosBack, ExportInfosFit, ImportInfosBack, ImportInfosFit};
+ghost use Rattle.wasm_encode.specs.Dylink0.{MemInfoBack, MemInfoFits, NamesBack, NamesFit, export_info_bytes};
+ghost use Rattle.wasm_encode.specs.Dylink0.{import_info_bytes};
+ghost use Rattle.wasm_encode.specs.Names.{NameFits};
 
 use crate::encode::Encode;
 use crate::names::write_name;
@@ -13,7 +16,7 @@ use wasm_custom::{ExportInfo, ImportInfo, MemInfo};
 impl Encode for MemInfo {
     ghost use Rattle.wasm_base.specs.Item.{ReadsAs};
     ghost use Rattle.wasm_custom.specs.Dylink0.{mem_info_at};
-    ghost use Rattle.wasm_encode.specs.Dylink0.{MemInfoFits, mem_info_bytes};
+    ghost use Rattle.wasm_encode.specs.Dylink0.{mem_info_bytes};
 
     ghost meaning = { ReadsAs (λ info. info) mem_info_at };
 
@@ -145,4 +148,52 @@ impl<'a> Encode for ImportInfo<'a> {
     }
 
     fn reads_back(&self) {}
+}
+
+/// The subsection of the memory and table space of a library, which `write_subsection` writes with the id 1, is read as
+/// exactly this. Does nothing.
+pub fn mem_info_reads_back(info: &MemInfo)
+    requires { MemInfoFits info.now }
+    // Proved: each subsection of `dylink.0` that was written is read as its id and exactly what was written, as
+    //   `Dylink0Subsection` reads it [the clauses of `mem_info_reads_back`, `library_names_read_back`,
+    //   `export_infos_read_back`, `import_infos_read_back`, `library_arch_reads_back`]
+    ensures { (features offset : ℕ) → MemInfoBack features offset info.now }
+{
+    let _info = info;
+}
+
+/// A subsection of names of libraries (id 2) or of directories to search (id 5), which `write_section` writes, is read
+/// as exactly these names. Does nothing.
+pub fn library_names_read_back(names: &[&str])
+    requires { NamesFit names.now }
+    ensures { (features offset : ℕ) → NamesBack features offset names.now }
+{
+    let _names = names;
+}
+
+/// A subsection of information about exports, which `write_section` writes with the id 3, is read as exactly this
+/// information. Does nothing.
+pub fn export_infos_read_back(infos: &[ExportInfo<'_>])
+    requires { ExportInfosFit infos.now }
+    ensures { (features offset : ℕ) → ExportInfosBack features offset infos.now }
+{
+    let _infos = infos;
+}
+
+/// A subsection of information about imports, which `write_section` writes with the id 4, is read as exactly this
+/// information. Does nothing.
+pub fn import_infos_read_back(infos: &[ImportInfo<'_>])
+    requires { ImportInfosFit infos.now }
+    ensures { (features offset : ℕ) → ImportInfosBack features offset infos.now }
+{
+    let _infos = infos;
+}
+
+/// The subsection of the architecture that a library is for, which `write_subsection` writes with the id 6, is read as
+/// exactly this name. Does nothing.
+pub fn library_arch_reads_back(name: &str)
+    requires { NameFits name.now }
+    ensures { (features offset : ℕ) → ArchBack features offset name.now }
+{
+    let _name = name;
 }

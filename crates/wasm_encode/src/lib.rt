@@ -58,14 +58,20 @@ pub use bundles::import_sections_read_as_bundles;
 pub use code::code_sections_are_frames;
 pub use copied::types_are_copied;
 pub use custom::{custom_fits, custom_len, write_custom};
+pub use dylink0::{
+    export_infos_read_back, import_infos_read_back, library_arch_reads_back,
+    library_names_read_back, mem_info_reads_back,
+};
 pub use elements::element_sections_read_back;
 pub use encode::Encode;
 pub use expressions::{expression_fits, expression_len, expression_reads_back, write_expression};
+pub use linking::{linking_arch_reads_back, linking_reads_back};
 pub use lists::{list_len, write_list};
 pub use modules::{Module, Refused, SectionItem, Unfinished};
 pub use names::{name_fits, name_len, write_name};
 pub use namings::{module_name_reads_back, name_map_reads_back};
 pub use number::{signed_len, unsigned_len, write_signed, write_unsigned};
+pub use reloc::{reloc_len, reloc_reads_back, write_reloc};
 pub use sections::{
     items_read_back, number_section_len, section_fits, section_len, section_reads_back,
     write_number_section, write_section,

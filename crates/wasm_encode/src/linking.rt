@@ -1,13 +1,16 @@
 // What a linker reads of segments, functions that are called at startup, and comdats.
-ghost use Rattle.std.specs.Prelude.{◌≡◌, ◌+◌, ◌≤◌, ◌<◌, ◌^◌, ◌++◌, ◌↔◌, IsTrue, length, take};
+ghost use Rattle.std.specs.Prelude.{◌≡◌, ℕ, ◌+◌, ◌≤◌, ◌<◌, ◌^◌, ◌++◌, ◌↔◌, IsTrue, length, take};
 ghost use Rattle.wasm_custom.specs.Linking.{comdat_parts, segment_parts};
-ghost use Rattle.wasm_encode.specs.Linking.{comdat_bytes, comdat_kind_byte, segment_bytes};
+ghost use Rattle.wasm_encode.specs.Linking.{ArchBack, LinkingReadsBack, comdat_bytes, comdat_kind_byte, segment_bytes};
+ghost use Rattle.wasm_encode.specs.Names.{NameFits};
+ghost use Rattle.wasm_encode.specs.Sections.{SectionFits};
 
 use crate::bytes::write_byte;
 use crate::encode::Encode;
 use crate::lists::{copied_len, is_list, write_copied};
 use crate::names::write_name;
 use crate::number::{unsigned_len, write_unsigned};
+use crate::subsections::list_subsection_reads_back;
 use crate::texts::{text_fits, text_len};
 use bitflags::Flags;
 use wasm_custom::{Comdat, ComdatSymbol, ComdatSymbolKind, InitFunc, Segment};
@@ -191,4 +194,24 @@ impl<'a> Encode for Comdat<'a> {
     }
 
     fn reads_back(&self) {}
+}
+
+/// A subsection of segments, startup functions, comdats or symbols, which `write_section` writes with the ids 5 to 8,
+/// is read as exactly these items. Does nothing.
+pub fn linking_reads_back<T: Encode>(items: &[T])
+    requires { SectionFits T.encoded T.is_encodable items.now }
+    // Proved: each subsection of `linking` that was written is read as its id and exactly what was written, as
+    //   `Linking` reads it [the clauses of `linking_reads_back`, `linking_arch_reads_back`]
+    ensures { LinkingReadsBack T.meaning T.is_allowed T.encoded T.placed items.now }
+{
+    list_subsection_reads_back(items)
+}
+
+/// The subsection of the architecture that a module is for, which `write_subsection` writes with the id 9, is read as
+/// exactly this name. Does nothing.
+pub fn linking_arch_reads_back(name: &str)
+    requires { NameFits name.now }
+    ensures { (features offset : ℕ) → ArchBack features offset name.now }
+{
+    let _name = name;
 }

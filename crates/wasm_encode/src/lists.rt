@@ -108,8 +108,8 @@ pub fn write_list<T: Encode>(bytes: &mut [u8], at: usize, items: &[T]) -> usize
     requires fits { SectionFits T.encoded T.is_encodable items.now }
     requires room { at + length (content_bytes T.encoded items.now) ≤ length bytes.old }
     ensures end { result ≡ at + length (content_bytes T.encoded items.now) }
-    // Proved: a list is written as its count and its items, and no byte before or after it changes [`written`, `rest` of
-    //   `write_list` (`content_bytes`)]
+    // Proved: a list is written as its count and its items, and no byte before or after it changes [`written`, `rest`
+    //   of `write_list` (`content_bytes`)]
     ensures written { take result bytes.new ≡ take at bytes.old ++ content_bytes T.encoded items.now }
     ensures rest { drop result bytes.new ≡ drop result bytes.old }
     ensures len { length bytes.new ≡ length bytes.old }

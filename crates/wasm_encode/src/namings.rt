@@ -122,8 +122,8 @@ impl<'a> Encode for IndirectNaming<'a> {
     fn reads_back(&self) {}
 }
 
-/// The subsection of a module's name, which `write_subsection` writes with the id 0, is read as that name, wherever it is
-/// and whatever comes after it. Does nothing.
+/// The subsection of a module's name, which `write_subsection` writes with the id 0, is read as that name, wherever it
+/// is and whatever comes after it. Does nothing.
 pub fn module_name_reads_back(name: &str)
     requires { NameFits name.now }
     // Proved: the name of a module that was written is read as that name, as `Name` reads it

@@ -1,11 +1,13 @@
 // Relocations.
-ghost use Rattle.std.specs.Prelude.{◌≡◌, ◌+◌, ◌≤◌, ◌++◌, ◌↔◌, IsTrue, drop, length, take};
+ghost use Rattle.std.specs.Prelude.{◌≡◌, ℕ, ◌+◌, ◌<◌, ◌^◌, ◌≤◌, ◌++◌, ◌↔◌, IsTrue, drop, length, take};
 ghost use Rattle.wasm_custom.specs.Reloc.{addend_of, number_of};
-ghost use Rattle.wasm_encode.specs.Reloc.{AddendFits, addend_bytes};
+ghost use Rattle.wasm_encode.specs.Reloc.{AddendFits, RelocBack, RelocFits, addend_bytes, reloc_bytes};
 
 use crate::bytes::write_byte;
 use crate::encode::Encode;
+use crate::lists::{list_len, write_list};
 use crate::number::{signed_len, unsigned_len, write_signed, write_unsigned};
+use crate::sections::section_reads_back;
 use wasm_custom::{RelocAddendKind, RelocationEntry, RelocationType};
 
 // Returns the number of a type.
@@ -97,4 +99,66 @@ impl Encode for RelocationEntry {
     }
 
     fn reads_back(&self) {}
+}
+
+/// Returns how many bytes `write_reloc` writes of the relocations of a section.
+///
+/// The relocations must fit (`section_fits`).
+///
+/// ```rattle
+/// let entry = RelocationEntry { ty: RelocationType::MemoryAddrLeb, offset: 6, index: 2, addend: 8 };
+/// assert!(rt; section_fits(&[entry]));
+/// assert_eq!(rt; reloc_len(3, &[entry]), 6);
+/// ```
+///
+/// (Tool conventions, Linking, Relocation Sections.)
+#[tactic(auto, using(crate::proofs::Numbers::septets_few))]
+pub fn reloc_len(section: u32, entries: &[RelocationEntry]) -> usize
+    requires { RelocFits entries.now }
+    // Proved: `reloc_len` is how many bytes `write_reloc` writes
+    ensures { result ≡ length (reloc_bytes section entries.now) }
+{
+    unsigned_len(u64::from(section)) + list_len(entries)
+}
+
+/// Writes the relocations of a section: its index among all sections, how many relocations there are, and the
+/// relocations. It is the data of a custom section whose name begins with `reloc.`.
+///
+/// Writes at the index `at`, where there must be room for it, and returns the index after it. The relocations must fit
+/// (`section_fits`).
+///
+/// ```rattle
+/// let entry = RelocationEntry { ty: RelocationType::MemoryAddrLeb, offset: 6, index: 2, addend: 8 };
+/// assert!(rt; section_fits(&[entry]));
+/// let mut bytes = [0; 6];
+/// write_reloc(&mut bytes, 0, 3, &[entry]);
+/// assert_eq!(rt; &bytes, b"\x03\x01\x03\x06\x02\x08");
+/// ```
+///
+/// (Tool conventions, Linking, Relocation Sections.)
+#[tactic(auto, using(crate::proofs::RestStays::stays_on))]
+pub fn write_reloc(bytes: &mut [u8], at: usize, section: u32, entries: &[RelocationEntry]) -> usize
+    requires fits { RelocFits entries.now }
+    requires room { at + length (reloc_bytes section entries.now) ≤ length bytes.old }
+    ensures end { result ≡ at + length (reloc_bytes section entries.now) }
+    // Proved: the relocations of a section are written as its index, their count and each of them, and no byte before
+    //   or after them changes [`written`, `rest` of `write_reloc` (`reloc_bytes`)]
+    ensures written { take result bytes.new ≡ take at bytes.old ++ reloc_bytes section entries.now }
+    ensures rest { drop result bytes.new ≡ drop result bytes.old }
+    ensures len { length bytes.new ≡ length bytes.old }
+{
+    let after_section = write_unsigned(bytes, at, u64::from(section));
+    write_list(bytes, after_section, entries)
+}
+
+/// The data of a section of relocations, which `write_reloc` writes, is read as the index of the section and exactly
+/// these relocations. Does nothing.
+pub fn reloc_reads_back(section: u32, entries: &[RelocationEntry])
+    requires { RelocFits entries.now }
+    // Proved: the relocations of a section that were written are read as its index and exactly the given relocations,
+    //   as `RelocSectionReader` reads them
+    ensures { (features offset : ℕ) → RelocBack features offset section entries.now }
+{
+    let _section = section;
+    section_reads_back(entries)
 }

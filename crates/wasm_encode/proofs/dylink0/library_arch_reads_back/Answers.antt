@@ -1,0 +1,5 @@
+use Rattle.wasm_encode.proofs.Dylink0Back.{arch_back}
+use Rattle.wasm_encode.proofs.dylink0.library_arch_reads_back.Goals as goal
+
+pub returns : goal.returns
+returns c = λ features offset. arch_back c.args.name.now features offset c.requires
