@@ -1,18 +1,22 @@
 // Element segments.
 ghost use Rattle.std.specs.Prelude.{◌≡◌, ℕ, ◌+◌, ◌≤◌, ◌<◌, ◌^◌, ◌++◌, ◌↔◌, All, IsTrue, Option, drop, length, take};
+ghost use Rattle.wasm_base.specs.Inner.{after_reading};
+ghost use Rattle.wasm_base.specs.Number.{unsigned_at};
+ghost use Rattle.wasm_base.specs.declared.fault.NumberKind.TheVariants.{VarU32};
 ghost use Rattle.wasm_encode.specs.Elements.{ElementFits, ReadsAsSegments};
 ghost use Rattle.wasm_encode.specs.Elements.{ElementsFit, IsSpelled, KindFits, element_bytes, elements_bytes};
 ghost use Rattle.wasm_encode.specs.Elements.{elements_flag, has_type, kind_bytes, kind_flags, list_of, type_bytes};
 ghost use Rattle.wasm_encode.specs.Limits.{IsBelow};
-ghost use Rattle.wasm_encode.specs.Lists.{list_bytes};
+ghost use Rattle.wasm_encode.specs.Lists.{IsList, list_bytes};
 
 use crate::bytes::{write_byte, write_bytes};
 use crate::encode::Encode;
 use crate::expressions::bytes_of;
 use crate::globals::is_expression;
 use crate::limits::{maybe_len, write_maybe_number};
-use crate::lists::{copied_len, is_list, is_list_of_numbers, write_copied};
+use crate::lists::{copied_len, is_list, write_copied};
 use crate::sections::section_reads_back;
+use wasm_base::SectionLimited;
 use wasm_items::{Element, ElementItems, ElementKind, RefType};
 
 // Returns whether the index of a table is a number of 32 bits, as it always is.
@@ -125,6 +129,17 @@ fn has_type(kind: &ElementKind<'_>) -> bool
         ElementKind::Passive => true,
         ElementKind::Active { table_index, .. } => table_index.is_some(),
         ElementKind::Declared => true,
+    }
+}
+
+// Returns whether a list has as many numbers as it announces, and nothing after them.
+fn is_list_of_numbers(list: &SectionLimited<'_, u32>) -> bool
+    ensures { IsTrue result ↔ IsList (after_reading (unsigned_at VarU32)) list.now }
+{
+    let mut reader = list.get_binary_reader();
+    match reader.skip_var_u32s(list.count()) {
+        Ok(()) => reader.eof(),
+        Err(_) => false,
     }
 }
 

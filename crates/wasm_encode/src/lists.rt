@@ -1,9 +1,7 @@
 // Lists: those inside items, which are written by their bytes, and those of given items.
 ghost use Rattle.std.specs.Prelude.{◌≡◌, ◌+◌, ◌≤◌, ◌<◌, ◌^◌, ◌++◌, ◌↔◌, IsTrue, drop, length, take};
-ghost use Rattle.wasm_base.specs.Inner.{after_reading, all_skipped_at};
-ghost use Rattle.wasm_base.specs.Number.{unsigned_at};
+ghost use Rattle.wasm_base.specs.Inner.{all_skipped_at};
 ghost use Rattle.wasm_base.specs.Outcome.{GivesBy};
-ghost use Rattle.wasm_base.specs.declared.fault.NumberKind.TheVariants.{VarU32};
 ghost use Rattle.wasm_encode.specs.Lists.{IsList, list_bytes};
 ghost use Rattle.wasm_encode.specs.Sections.{SectionFits, content_bytes};
 
@@ -30,17 +28,6 @@ pub(crate) fn is_list<'a, T: SkipItem<'a>>(list: &SectionLimited<'a, T>) -> bool
 {
     let mut reader = list.get_binary_reader();
     match skip_items::<T>(list.count(), &mut reader) {
-        Ok(()) => reader.eof(),
-        Err(_) => false,
-    }
-}
-
-/// Returns whether a list has as many numbers as it announces, and nothing after them.
-pub(crate) fn is_list_of_numbers(list: &SectionLimited<'_, u32>) -> bool
-    ensures { IsTrue result ↔ IsList (after_reading (unsigned_at VarU32)) list.now }
-{
-    let mut reader = list.get_binary_reader();
-    match reader.skip_var_u32s(list.count()) {
         Ok(()) => reader.eof(),
         Err(_) => false,
     }

@@ -3,7 +3,7 @@ use Rattle.wasm_base.specs.Number.{unsigned_at}
 use Rattle.wasm_base.specs.Window.{place}
 use Rattle.wasm_base.specs.declared.fault.NumberKind.TheVariants.{VarU32}
 use Rattle.wasm_encode.proofs.ListsBack.{no_list, whole_list}
-use Rattle.wasm_encode.proofs.lists.is_list_of_numbers.Goals as goal
+use Rattle.wasm_encode.proofs.elements.is_list_of_numbers.Goals as goal
 
 pub returns-in-Ok : goal.returns-in-Ok
 returns-in-Ok c = whole_list (after_reading (unsigned_at VarU32)) c.args.list.now c.count.result c.get_binary_reader-reader.result
