@@ -5,8 +5,9 @@ mod common;
 use common::bytes;
 use pulleynavy::encoder::{
     CodeSection, ConstExpr, CustomSection, DataCountSection, DataSection, ElementSection, Elements, Encode, EntityType, ExportKind, ExportSection, FieldType,
-    FunctionSection, GlobalSection, GlobalType, HeapType, ImportSection, MemorySection, MemoryType, Module, RawSection, RefType, Section, StartSection,
-    StorageType, TableSection, TableType, TagKind, TagSection, TagType, TypeSection, ValType,
+    FunctionSection, GlobalSection, GlobalType, HeapType, ImportSection, IndirectNameMap, MemorySection, MemoryType, Module, NameMap, NameSection,
+    ProducersField, ProducersSection, RawSection, RefType, Section, StartSection, StorageType, TableSection, TableType, TagKind, TagSection, TagType,
+    TypeSection, ValType,
 };
 use pulleynavy::{BinaryReaderError, FuncType, Ieee32, Ieee64, Parser, Payload, UnpackedIndex};
 
@@ -111,6 +112,25 @@ fn data() {
     data.active(0, &ConstExpr::i32_const(8), *b"ab").active(1, &ConstExpr::i32_const(0), []).passive([0xff; 3]);
     is(&data, "0b 13 03 00 41 08 0b 02 61 62 02 01 41 00 0b 00 01 03 ff ff ff");
     is(&DataCountSection { count: 3 }, "0c 01 03");
+}
+
+#[test]
+fn names() {
+    let (mut functions, mut locals) = (NameMap::new(), IndirectNameMap::new());
+    functions.append(1, "f");
+    functions.append(300, "é");
+    locals.append(1, &functions);
+    let mut names = NameSection::new();
+    names.module("app").functions(&functions).locals(&locals);
+    is(&names, "00 23 04 6e 61 6d 65 00 04 03 61 70 70 01 09 02 01 01 66 ac 02 02 c3 a9 02 0b 01 01 02 01 01 66 ac 02 02 c3 a9");
+}
+
+#[test]
+fn producers() {
+    let (mut language, mut producers) = (ProducersField::new(), ProducersSection::new());
+    language.value("Rust", "1.85").value("C", "");
+    producers.field("language", &language);
+    is(&producers, "00 22 09 70 72 6f 64 75 63 65 72 73 01 08 6c 61 6e 67 75 61 67 65 02 04 52 75 73 74 04 31 2e 38 35 01 43 00");
 }
 
 #[test]

@@ -21,7 +21,7 @@ use Rattle.wasm_encode.specs.Numbers.{unsigned_bytes}
 use Rattle.wasm_encode.specs.ReadsBack.{spot, Encodes}
 use Rattle.wasm_encode.specs.Sections.{items_bytes}
 use Rattle.wasm_encode.proofs.CopiedTypes.{copies_item, same_limits}
-use Rattle.wasm_encode.proofs.Copies.{Same}
+use Rattle.wasm_encode.proofs.CopiedExpressions.{Same}
 use Rattle.wasm_encode.proofs.ImportsBack.{reads_type_ref}
 use Rattle.wasm_encode.proofs.ListsBack.{copies_name, kept_list, list_back}
 use Rattle.wasm_encode.proofs.NamesBack.{reads_name}

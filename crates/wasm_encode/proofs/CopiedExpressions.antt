@@ -1,11 +1,10 @@
 -- The bytes of a constant expression that was read are one wherever they are copied to.
-use Rattle.std.proofs.Common.{◌≡◌, ℕ, zero, suc, ◌+◌, ◌-◌, ◌*◌, ◌<◌, ◌≤◌, ◌^◌, Bool, true, false, cond, List, [], ◌∷◌, ◌++◌}
-use Rattle.std.proofs.Common.{length, take, drop}
-use Rattle.std.proofs.Common.{arith, ap, sym, ◌∙◌, Option, Some, None, Ok, Err, refl, subst, append-nil, append_assoc}
-use Rattle.std.proofs.Common.{length-append, nat_lt, nat_eq, ℤ, pos, negsuc, ltb-false}
+use Rattle.std.proofs.Common.{◌≡◌, ℕ, zero, suc, ◌+◌, ◌-◌, ◌*◌, ◌<◌, ◌≤◌, ◌^◌, Bool, true, false, cond, List, [], ◌∷◌}
+use Rattle.std.proofs.Common.{◌++◌, length, take, drop, arith, ap, sym, ◌∙◌, Option, Some, None, Ok, Err, refl, subst}
+use Rattle.std.proofs.Common.{append-nil, append_assoc, length-append, nat_lt, nat_eq, ℤ, pos, negsuc, ltb-false}
+use Rattle.std.proofs.Math.Seq.{take-append_seam, drop-append_seam}
 use Rattle.std.proofs.lemmas.Bool.{le-ltb}
 use Rattle.std.proofs.lemmas.List.{take-append-drop, length-take}
-use Rattle.std.proofs.Math.Seq.{take-append_seam, drop-append_seam}
 use Rattle.wasm_base.proofs.NumberLaws.{number-more, number-used}
 use Rattle.wasm_base.proofs.OwnBytes.{same_read}
 use Rattle.wasm_base.specs.FaultAt.{at_offset}
@@ -18,14 +17,15 @@ use Rattle.wasm_base.specs.Window.{Place, advanced}
 use Rattle.wasm_base.specs.declared.fault.Fault.TheVariants.{UnexpectedEof, NotConstant}
 use Rattle.wasm_base.specs.declared.fault.NumberKind.{NumberKind}
 use Rattle.wasm_base.specs.declared.fault.NumberKind.TheVariants.{VarU32, VarS33}
+use Rattle.wasm_encode.specs.Consumed.{CopiesItsBytes}
 use Rattle.wasm_encode.specs.ReadsBack.{spot}
-use Rattle.wasm_encode.proofs.Moves.{Any, Copies, Moved, either, fails, in_turn, nothing}
+use Rattle.wasm_encode.proofs.Moves.{Any, Copies, Moved, either, fails, in_turn, nothing, Moves, moves}
 use Rattle.wasm_encode.proofs.NumbersBack.{unsigned_read, signed_read}
 use Rattle.wasm_encode.proofs.Readings.{Reads, same_spot}
 use Rattle.wasm_items.proofs.Expressions.{end_or_instruction}
-use Rattle.wasm_items.specs.Init.{Operands, done, signed, float_32, float_64, raw, u32_index, heap, operands_at, constant_operands_at}
-use Rattle.wasm_items.specs.Init.{numbered_operands_at, aggregate_operands_of, vector_operands_of, operands_of, after_opcode}
-use Rattle.wasm_items.specs.Init.{instructions_at, end_of_expression}
+use Rattle.wasm_items.specs.Init.{Operands, done, signed, float_32, float_64, raw, u32_index, heap, operands_at}
+use Rattle.wasm_items.specs.Init.{constant_operands_at, numbered_operands_at, aggregate_operands_of}
+use Rattle.wasm_items.specs.Init.{vector_operands_of, operands_of, after_opcode, instructions_at, end_of_expression}
 use Rattle.wasm_items.specs.Values.{abstract_heap_of, type_index, heap_type_from, heap_type_at}
 use Rattle.wasm_items.specs.declared.init.ConstOperator.{ConstOperator}
 use Rattle.wasm_items.specs.declared.types.HeapType.{HeapType}
@@ -319,3 +319,25 @@ reads_expression f o bytes e g =
     let r : [] ≡ a.rest = ap (λ (p : Place). p.rest) a.after in
     let w : bytes ≡ a.taken = a.split ∙ (ap (λ (xs : List ℕ). a.taken ++ xs) (sym r) ∙ append-nil a.taken) in
     subst (λ (xs : List ℕ). Reads end_of_expression g tt xs) (sym w) (a.reads g)
+
+-- ---- readers with the same features
+
+-- readers with the same features
+abbrev pub Same : (f g : ℕ) → Type 0
+Same f g = f ≡ g
+
+pub copies_bytes : {A : Type 0} (reading : Place → Outcome A) → Moves Same (λ s. reading) → CopiesItsBytes reading
+copies_bytes reading one = record {
+  at = λ f o bytes x q e.
+      let a = one.at 0 f o bytes x q e in
+      record {
+        taken = a.taken;
+        rest = a.rest;
+        split = a.split;
+        after = a.after;
+        encodes = record { read = (a.reads 0 f refl).at };
+      };
+}
+
+pub copies_number : (kind : NumberKind) → CopiesItsBytes (unsigned_at kind)
+copies_number kind = copies_bytes (unsigned_at kind) (moves (unsigned kind))

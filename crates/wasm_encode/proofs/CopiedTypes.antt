@@ -18,8 +18,7 @@ use Rattle.wasm_base.specs.declared.fault.NumberKind.{NumberKind}
 use Rattle.wasm_base.specs.declared.fault.NumberKind.TheVariants.{VarU32, VarU64}
 use Rattle.wasm_encode.specs.Copied.{TypesAreCopied}
 use Rattle.wasm_encode.specs.ReadsBack.{spot}
-use Rattle.wasm_encode.proofs.CopiedExpressions.{heap_copies, unsigned}
-use Rattle.wasm_encode.proofs.Copies.{Same, copies_bytes}
+use Rattle.wasm_encode.proofs.CopiedExpressions.{heap_copies, unsigned, Same, copies_bytes}
 use Rattle.wasm_encode.proofs.ListsBack.{copies_byte, copies_expression, copies_name, copies_table}
 use Rattle.wasm_encode.proofs.Moves.{Moved, Moves, either, fails, here, in_turn, moves, nothing}
 use Rattle.wasm_encode.proofs.Readings.{Reads}

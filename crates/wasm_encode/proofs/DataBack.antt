@@ -12,8 +12,7 @@ use Rattle.wasm_encode.specs.Numbers.{unsigned_bytes}
 use Rattle.wasm_encode.specs.ReadsBack.{spot, Encodes}
 use Rattle.wasm_encode.proofs.CopiedExpressions.{bytes_back}
 use Rattle.wasm_encode.proofs.ExpressionsBack.{copied}
-use Rattle.wasm_encode.proofs.NumbersBack.{unsigned_at_spot}
-use Rattle.wasm_encode.proofs.SegmentsBack.{flags_back}
+use Rattle.wasm_encode.proofs.NumbersBack.{unsigned_at_spot, flags_back}
 use Rattle.wasm_items.specs.Data.{data_at, data_kind_at, data_parts}
 use Rattle.wasm_items.specs.declared.data.Data.{Data}
 use Rattle.wasm_items.specs.declared.data.DataKind.{DataKind}

@@ -24,7 +24,7 @@ use Rattle.wasm_encode.proofs.Lengths.{name_few}
 use Rattle.wasm_encode.proofs.Numbers.{septets_few}
 use Rattle.wasm_encode.proofs.Readings.{Reads, encodes_so, reads_as, reads_then}
 use Rattle.wasm_encode.proofs.SubsectionsBack.{framed, window_read}
-use Rattle.wasm_encode.proofs.TextsBack.{name_is_text, reads_text}
+use Rattle.wasm_encode.proofs.NamesBack.{name_is_text, reads_text}
 
 reads_mem_info : (x : MemInfo) (features : ℕ) → MemInfoFits x → Reads mem_info_at features x (mem_info_bytes x)
 unfolding mem_info_at mem_info_bytes

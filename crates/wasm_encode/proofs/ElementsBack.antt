@@ -20,8 +20,7 @@ use Rattle.wasm_encode.proofs.ExpressionsBack.{copied}
 use Rattle.wasm_encode.proofs.ImportsBack.{reads_kind}
 use Rattle.wasm_encode.proofs.ListsBack.{copies_expression, copies_skip, list_back}
 use Rattle.wasm_encode.proofs.Moves.{Copies}
-use Rattle.wasm_encode.proofs.NumbersBack.{unsigned_at_spot}
-use Rattle.wasm_encode.proofs.SegmentsBack.{flags_back}
+use Rattle.wasm_encode.proofs.NumbersBack.{unsigned_at_spot, flags_back}
 use Rattle.wasm_encode.proofs.TypesBack.{reads_ref}
 use Rattle.wasm_items.specs.Elements.{element_at, element_flags_at, element_kind_at, elements_at, expression_elements_at, funcref}
 use Rattle.wasm_items.specs.Elements.{function_elements_at, has_expressions, is_indexed_or_declared, is_not_active, is_typed}

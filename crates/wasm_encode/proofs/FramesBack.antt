@@ -1,16 +1,22 @@
 -- Sections of counted items, and those that are one number, are well-formed.
-use Rattle.std.proofs.Common.{◌≡◌, ℕ, ◌<◌, ◌^◌, ◌⊎◌, inl, inr, false, List, [], ◌++◌, length, append-nil, refl, subst, sym, arith}
+use Rattle.std.proofs.Common.{◌≡◌, ℕ, ◌<◌, ◌^◌, ◌⊎◌, inl, inr, false, List, [], ◌++◌, length, append-nil, refl, subst}
+use Rattle.std.proofs.Common.{sym, arith, ◌↔◌, subst₂}
 use Rattle.wasm_base.specs.Number.{number, read}
 use Rattle.wasm_base.specs.declared.fault.NumberKind.TheVariants.{VarU32}
+use Rattle.wasm_grammar.proofs.frames.ReportedAs.{frames_give_events}
+use Rattle.wasm_grammar.specs.Accepted.{IsFrame, IsGood, SectionFrame}
+use Rattle.wasm_grammar.specs.Content.{Kind, data_count, index, items, kind_of, whole}
+use Rattle.wasm_grammar.specs.FrameEvents.{TellsFrames}
+use Rattle.wasm_grammar.specs.Reading.{Reading}
+use Rattle.wasm_grammar.specs.declared.encoding.Encoding.{Encoding}
+use Rattle.wasm_grammar.specs.declared.encoding.Encoding.TheVariants.{Module}
 use Rattle.wasm_encode.specs.Frames.{frame_of}
+use Rattle.wasm_encode.specs.Laws.{ModulesAreRead}
 use Rattle.wasm_encode.specs.Modules.{MakesFrames}
 use Rattle.wasm_encode.specs.Numbers.{unsigned_bytes}
 use Rattle.wasm_encode.specs.Sections.{items_bytes}
 use Rattle.wasm_encode.proofs.Numbers.{septets_few}
 use Rattle.wasm_encode.proofs.NumbersBack.{unsigned_back}
-use Rattle.wasm_grammar.specs.Accepted.{IsFrame, IsGood}
-use Rattle.wasm_grammar.specs.Content.{Kind, data_count, index, items, kind_of, whole}
-use Rattle.wasm_grammar.specs.declared.encoding.Encoding.TheVariants.{Module}
 
 pub alone : (n : ℕ) → n < 2 ^ 32 → number VarU32 (unsigned_bytes n) ≡ read n (length (unsigned_bytes n))
 alone n h = let size : List ℕ = unsigned_bytes n in
@@ -42,3 +48,10 @@ pub makes_frames : {T : Type 0} (encoded : T → List ℕ) (is_encodable : T →
     → kind_of Module id ≡ whole items → MakesFrames encoded is_encodable id
 makes_frames encoded is_encodable id small kind xs fit =
     frames id (length xs) (items_bytes encoded xs) small kind fit.few fit.short
+
+-- ---- what a module that was written is read as
+
+pub modules_are_read : ModulesAreRead
+modules_are_read frames stream (a, encoded, same) start features events s =
+    subst₂ (λ (e : Encoding) (fs : List SectionFrame). Reading stream start features events ↔ TellsFrames start features e fs events)
+    encoded same (frames_give_events stream start features events s a)

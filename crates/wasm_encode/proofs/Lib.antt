@@ -8,7 +8,6 @@ pub mod Readings
 pub mod RestStays
 pub mod TypesBack
 pub mod SectionsBack
-pub mod Copies
 pub mod FramesBack
 pub mod CopiedExpressions
 pub mod GlobalsBack
@@ -21,7 +20,6 @@ pub mod Moves
 pub mod CopiedTypes
 pub mod BundlesBack
 pub mod OperatorsBack
-pub mod SegmentsBack
 pub mod TablesBack
 pub mod GroupsBack
 pub mod SoFar
@@ -29,8 +27,6 @@ pub mod Admitting
 pub mod Growing
 pub mod Adding
 pub mod CustomBack
-pub mod ReadModules
-pub mod TextsBack
 pub mod NamingsBack
 pub mod TargetFeaturesBack
 pub mod ProducersBack

@@ -34,11 +34,10 @@ use Rattle.wasm_encode.proofs.ImportsBack.{reads_u32}
 use Rattle.wasm_encode.proofs.Lengths.{name_few}
 use Rattle.wasm_encode.proofs.ListsBack.{copies_skip, copies_table, list_back}
 use Rattle.wasm_encode.proofs.Moves.{Copies, in_turn, nothing}
-use Rattle.wasm_encode.proofs.NamesBack.{reads_name}
+use Rattle.wasm_encode.proofs.NamesBack.{reads_name, reads_text}
 use Rattle.wasm_encode.proofs.NumbersBack.{unsigned_at_spot}
 use Rattle.wasm_encode.proofs.Readings.{Reads, encodes_so, reads_as, reads_then, same_spot}
 use Rattle.wasm_encode.proofs.SubsectionsBack.{framed, window_read}
-use Rattle.wasm_encode.proofs.TextsBack.{reads_text}
 
 reads_segment : (x : SegmentParts) (features : ℕ) → SegmentFits x → Reads segment_at features x (segment_bytes x)
 unfolding segment_at segment_bytes

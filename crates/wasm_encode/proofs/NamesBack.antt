@@ -1,17 +1,19 @@
 -- The bytes of names are read as the names.
-use Rattle.std.proofs.Common.{◌≡◌, ℕ, ◌+◌, ◌<◌, ◌≤◌, ◌^◌, false, true, List, ◌++◌, length, take, drop, Option, Some, Ok}
-use Rattle.std.proofs.Common.{append_assoc, arith, ap, sym, ◌∙◌, length-append, refl}
+use Rattle.std.proofs.Common.{◌≡◌, ℕ, ◌+◌, ◌<◌, ◌≤◌, ◌^◌, false, true, List, ◌++◌, length, take, drop, Option, Some}
+use Rattle.std.proofs.Common.{Ok, append_assoc, arith, ap, sym, ◌∙◌, length-append, refl, Bor, None}
 use Rattle.std.proofs.Math.Seq.{take-append_seam, drop-append_seam}
 use Rattle.std.proofs.lemmas.Bool.{le-ltb}
 use Rattle.std.specs.Str.{is_utf8}
+use Rattle.wasm_base.specs.Item.{ReadsName}
 use Rattle.wasm_base.specs.Name.{after_size, is_above, name, name_limit, named, text_at, name_in_window}
 use Rattle.wasm_base.specs.Number.{number, read}
 use Rattle.wasm_base.specs.declared.fault.NumberKind.TheVariants.{VarU32}
 use Rattle.wasm_encode.specs.Names.{NameFits, name_bytes}
 use Rattle.wasm_encode.specs.Numbers.{unsigned_bytes}
-use Rattle.wasm_encode.specs.ReadsBack.{spot}
+use Rattle.wasm_encode.specs.ReadsBack.{spot, Encodes}
+use Rattle.wasm_encode.specs.Texts.{TextFits}
 use Rattle.wasm_encode.proofs.NumbersBack.{unsigned_back}
-use Rattle.wasm_encode.proofs.Readings.{Reads}
+use Rattle.wasm_encode.proofs.Readings.{Reads, encodes_so}
 
 within : (limit : Option ℕ) (bytes text : List ℕ) (used : ℕ) → length text ≤ length (drop used bytes)
     → take (length text) (drop used bytes) ≡ text → is_utf8 text ≡ true → is_above limit (length text) ≡ false
@@ -59,3 +61,17 @@ pub reads_name : (text : List ℕ) (features : ℕ) → NameFits text → Reads 
 reads_name text features fits =
     let short = fits.short in
     reads_sized (Some name_limit) text features fits.utf8 (le-ltb name_limit (length text) short) (omega arith)
+
+-- ---- texts
+
+pub reads_text : (text : List ℕ) (features : ℕ) → TextFits text → Reads (text_at None) features text (name_bytes text)
+reads_text text features fits = reads_sized None text features fits.utf8 refl fits.short
+
+-- A name is a text.
+pub name_is_text : (name : List ℕ) → NameFits name → TextFits name
+name_is_text name h = let short = h.short in record { utf8 = h.utf8; short = omega (arith, short) }
+
+pub name_encodes : (name : Bor (List ℕ)) (features : ℕ) → NameFits name.now
+    → Encodes (ReadsName (λ (text : Bor (List ℕ)). text.now)) features (λ (offset : ℕ). name) (name_bytes name.now)
+name_encodes name features h =
+    encodes_so (λ text. text.now) (text_at (Some name_limit)) features name (name_bytes name.now) (reads_name name.now features h)

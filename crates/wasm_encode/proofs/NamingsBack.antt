@@ -31,11 +31,10 @@ use Rattle.wasm_encode.proofs.Lengths.{name_few}
 use Rattle.wasm_encode.proofs.ListsBack.{copies_name, list_back}
 use Rattle.wasm_encode.proofs.Moves.{Copies, in_turn}
 use Rattle.wasm_encode.proofs.NameMapsBack.{run}
-use Rattle.wasm_encode.proofs.NamesBack.{reads_name}
+use Rattle.wasm_encode.proofs.NamesBack.{reads_name, reads_text}
 use Rattle.wasm_encode.proofs.NumbersBack.{unsigned_at_spot}
 use Rattle.wasm_encode.proofs.Readings.{Reads, encodes_so, reads_as, reads_then, same_spot}
 use Rattle.wasm_encode.proofs.SubsectionsBack.{framed, window_read}
-use Rattle.wasm_encode.proofs.TextsBack.{reads_text}
 
 reads_naming : (n : NamingParts) (features : ℕ) → NamingFits n → Reads naming_at features n (naming_bytes n)
 unfolding naming_at naming_bytes

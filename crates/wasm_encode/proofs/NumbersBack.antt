@@ -1,22 +1,23 @@
 -- The bytes of numbers are read as the numbers.
-use Rattle.std.proofs.Common.{◌≡◌, ℕ, zero, suc, ◌+◌, ◌-◌, ◌*◌, ◌<◌, ◌≤◌, ◌/◌, ◌%◌, ◌^◌, Bool, true, false, List, [], ◌∷◌, ◌++◌}
-use Rattle.std.proofs.Common.{length, take}
-use Rattle.std.proofs.Common.{arith, ap, sym, ◌∙◌, Some, slice_index, Ok, refl, ℤ, pos, negsuc, ◌-ℤ◌, nat_lt, cond}
+use Rattle.std.proofs.Common.{◌≡◌, ℕ, zero, suc, ◌+◌, ◌-◌, ◌*◌, ◌<◌, ◌≤◌, ◌/◌, ◌%◌, ◌^◌, Bool, true, false, List, []}
+use Rattle.std.proofs.Common.{◌∷◌, ◌++◌, length, take, arith, ap, sym, ◌∙◌, Some, slice_index, Ok, refl, ℤ, pos}
+use Rattle.std.proofs.Common.{negsuc, ◌-ℤ◌, nat_lt, cond, subst}
 use Rattle.std.proofs.Math.Nat.{pow-succ'}
 use Rattle.std.proofs.Math.Seq.{drop-append_seam, take-append_seam}
 use Rattle.std.proofs.lemmas.Bool.{lt-ltb, le-ltb, le-leb}
 use Rattle.std.proofs.lemmas.Int.{ints}
+use Rattle.wasm_base.proofs.Signed.{seven_bits}
 use Rattle.wasm_base.specs.Item.{ReadsAs}
+use Rattle.wasm_base.specs.Leading.{flags_at}
 use Rattle.wasm_base.specs.Number.{read, number, ends_at, last_place, septets, most_bytes, bits_of, is_unused_right}
 use Rattle.wasm_base.specs.Number.{in_window, unsigned_at}
 use Rattle.wasm_base.specs.Signed.{signed_value, signed_at, FitsBits}
 use Rattle.wasm_base.specs.Widths.{is_signed}
 use Rattle.wasm_base.specs.declared.fault.NumberKind.{NumberKind}
 use Rattle.wasm_base.specs.declared.fault.NumberKind.TheVariants.{VarU32, VarI32, VarU64, VarI64, VarS33}
-use Rattle.wasm_base.proofs.Signed.{seven_bits}
 use Rattle.wasm_encode.specs.Numbers.{septet, leb, septets_of, unsigned_bytes, signed_bytes}
 use Rattle.wasm_encode.specs.ReadsBack.{spot, Encodes}
-use Rattle.wasm_encode.proofs.Numbers.{span, leb_enough, leb_least, leb_most, rest_below}
+use Rattle.wasm_encode.proofs.Numbers.{span, leb_enough, leb_least, leb_most, rest_below, septets_last}
 
 pow_more : (b m : ℕ) → b ^ suc m ≡ b * b ^ m
 pow_more b m = pow-succ' b m
@@ -253,3 +254,19 @@ signed_at_spot VarI64 features offset (negsuc n) later s f =
 pub signed_encodes : (kind : NumberKind) (features : ℕ) (n : ℤ) → is_signed kind ≡ true → FitsBits (bits_of kind) n
     → Encodes (ReadsAs (λ (m : ℤ). m) (signed_at kind)) features (λ (offset : ℕ). n) (signed_bytes n)
 signed_encodes kind features n s f = record { read = λ offset later. signed_at_spot kind features offset n later s f }
+
+-- ---- flags, which are numbers below 128
+
+-- a number of one byte
+pub small_back : (n features offset : ℕ) (later : List ℕ) → n < 128
+    → unsigned_at VarU32 (spot features offset (n ∷ later)) ≡ Ok (n, spot features (offset + 1) later)
+small_back n features offset later h =
+    subst (λ (bytes : List ℕ).
+    unsigned_at VarU32 (spot features offset (bytes ++ later)) ≡ Ok (n, spot features (offset + length bytes) later))
+    (septets_last false 128 n h) (unsigned_at_spot VarU32 features offset n later refl (omega arith))
+
+-- flags, which are at most a number
+pub flags_back : (most n features offset : ℕ) (later : List ℕ) → n ≤ most → n < 128
+    → flags_at most (spot features offset (n ∷ later)) ≡ Ok (Some n, spot features (offset + 1) later)
+unfolding flags_at
+flags_back most n features offset later h small = rw (small_back n features offset later small, le-ltb most n h) refl

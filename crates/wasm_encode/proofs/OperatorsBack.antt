@@ -12,9 +12,8 @@ use Rattle.wasm_encode.specs.Numbers.{unsigned_bytes}
 use Rattle.wasm_encode.specs.Operators.{OperatorFits, after_opcode_bytes, opcode, operator_bytes, operator_read_at}
 use Rattle.wasm_encode.specs.ReadsBack.{spot, Encodes}
 use Rattle.wasm_encode.proofs.CopiedExpressions.{bytes_back}
-use Rattle.wasm_encode.proofs.NumbersBack.{signed_at_spot, unsigned_at_spot}
+use Rattle.wasm_encode.proofs.NumbersBack.{signed_at_spot, unsigned_at_spot, small_back}
 use Rattle.wasm_encode.proofs.Readings.{same_spot}
-use Rattle.wasm_encode.proofs.SegmentsBack.{small_back}
 use Rattle.wasm_encode.proofs.TypesBack.{heap_at_spot}
 use Rattle.wasm_items.specs.Init.{Operands, after_opcode, aggregate_operands_of, done, index, numbered_operands_at, vector_operands_of}
 use Rattle.wasm_items.specs.Instructions.{instruction_at, is_end}

@@ -16,7 +16,7 @@ use Rattle.wasm_encode.specs.Texts.{TextFits}
 use Rattle.wasm_encode.proofs.ListsBack.{copies_name, list_back}
 use Rattle.wasm_encode.proofs.Moves.{Copies, in_turn}
 use Rattle.wasm_encode.proofs.Readings.{Reads, encodes_so, reads_as, reads_then, same_spot}
-use Rattle.wasm_encode.proofs.TextsBack.{reads_text}
+use Rattle.wasm_encode.proofs.NamesBack.{reads_text}
 
 reads_value : (x : ValueParts) (features : ℕ) → ValueFits x → Reads field_value_at features x (value_bytes x)
 unfolding field_value_at value_bytes

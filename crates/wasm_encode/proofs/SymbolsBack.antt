@@ -21,7 +21,7 @@ use Rattle.wasm_encode.specs.Texts.{TextFits}
 use Rattle.wasm_encode.proofs.ImportsBack.{reads_u32}
 use Rattle.wasm_encode.proofs.NumbersBack.{unsigned_at_spot}
 use Rattle.wasm_encode.proofs.Readings.{Reads, encodes_so, reads_as, reads_nothing, reads_then, same_spot}
-use Rattle.wasm_encode.proofs.TextsBack.{reads_text}
+use Rattle.wasm_encode.proofs.NamesBack.{reads_text}
 
 reads_place : (x : DefinedDataSymbol) (features : ℕ) → PlaceFits x → Reads defined_data_at features x (place_bytes x)
 unfolding defined_data_at place_bytes

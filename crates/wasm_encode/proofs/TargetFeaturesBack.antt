@@ -9,7 +9,7 @@ use Rattle.wasm_encode.specs.Names.{name_bytes}
 use Rattle.wasm_encode.specs.ReadsBack.{Encodes}
 use Rattle.wasm_encode.specs.TargetFeatures.{FeatureFits, feature_bytes}
 use Rattle.wasm_encode.proofs.Readings.{Reads, encodes_so, reads_as, reads_byte, reads_then}
-use Rattle.wasm_encode.proofs.TextsBack.{reads_text}
+use Rattle.wasm_encode.proofs.NamesBack.{reads_text}
 
 reads_feature : (x : FeatureParts) (features : ℕ) → FeatureFits x → Reads target_feature_at features x (feature_bytes x)
 unfolding target_feature_at feature_bytes

@@ -37,6 +37,8 @@ mod exports;
 mod globals;
 mod imports;
 mod kinds;
+mod names;
+mod producers;
 mod tables;
 mod types;
 
@@ -49,6 +51,8 @@ pub use exports::{ExportKind, ExportSection};
 pub use globals::GlobalSection;
 pub use imports::{EntityType, ImportSection};
 pub use kinds::{GlobalType, MemoryType, TableType};
+pub use names::{IndirectNameMap, NameMap, NameSection};
+pub use producers::{ProducersField, ProducersSection};
 pub use tables::{MemorySection, TableSection, TagSection};
 pub use types::{CoreTypeEncoder, TypeSection};
 

@@ -1,4 +1,4 @@
-use Rattle.wasm_encode.proofs.ReadModules.{modules_are_read}
+use Rattle.wasm_encode.proofs.FramesBack.{modules_are_read}
 use Rattle.wasm_encode.proofs.laws.modules_are_read.Goals as goal
 
 pub returns : goal.returns

@@ -1,4 +1,4 @@
-use Rattle.wasm_encode.proofs.TextsBack.{name_encodes}
+use Rattle.wasm_encode.proofs.NamesBack.{name_encodes}
 use Rattle.wasm_encode.proofs.texts.RefStrEncode.reads_back.Goals as goal
 
 pub returns : goal.returns
