@@ -38,7 +38,7 @@ def without_places(lines):
     for line in lines:
         line = re.sub(r"^( +)\d+ ", r"\1", line)
         line = re.sub(r"\b\d+\.\.\d+\b", "..", line)
-        line = re.sub(r"(?<=[\[ ])\d+:|(?<=fault )\d+ ", "", line)
+        line = re.sub(r"(?<=[\[ ])\d+:|(?<=fault )\d+ |(?<= at )\d+ ", "", line)
         words = line.split(" ")
         kept = {"section": [1, 4], "start": [3], "datacount": [3], "code": [3], "version": [3, 4]}
         if words[0] in ("section", "start", "datacount", "code", "version", "body", "custom", "end"):
