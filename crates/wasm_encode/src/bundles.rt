@@ -144,7 +144,8 @@ pub fn import_sections_read_as_bundles(imports: &[Import<'_>])
     requires fits { All (λ i. ImportFits (import_parts i)) imports.now }
     requires few { length imports.now < 2 ^ 32 }
     // Proved: an import section that was written without bundles is read as exactly the given imports, each at its
-    //   offset, also by readers that know bundles
+    //   offset, also by readers that know bundles [the clause of `import_sections_read_as_bundles`
+    //   (`ReadsAsSingles`)]
     ensures { (features offset : ℕ) → All (λ i. TypeRefAllowed features i.ty) imports.now
         → ReadsAsSingles features offset imports.now }
 {
