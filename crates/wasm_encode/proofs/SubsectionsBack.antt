@@ -1,17 +1,20 @@
 -- The bytes of subsections are read as the subsections.
 use Rattle.std.proofs.Common.{◌≡◌, ℕ, ◌+◌, ◌<◌, ◌^◌, List, [], ◌++◌, Ok, append-nil, append_assoc, arith, length}
-use Rattle.std.proofs.Common.{◌-◌, ap, length-append, map, refl, subst, sym, ◌∙◌}
+use Rattle.std.proofs.Common.{◌-◌, ap, length-append, map, refl, subst, sym, ◌∙◌, ◌∷◌, Result}
 use Rattle.std.proofs.Math.Seq.{drop-append_seam}
 use Rattle.std.proofs.lemmas.Bool.{lt-ltb}
+use Rattle.std.proofs.lemmas.List.Elements.{All-head, All-tail}
+use Rattle.wasm_base.specs.FaultAt.{FaultAt}
 use Rattle.wasm_base.specs.Name.{u7_at, window_at}
 use Rattle.wasm_base.specs.Outcome.{Outcome}
 use Rattle.wasm_base.specs.Section.{ItemsOf, as_read, section_after, section_in}
-use Rattle.wasm_base.specs.Subsections.{subsection_at}
-use Rattle.wasm_base.specs.Window.{Place, place, window_over}
+use Rattle.wasm_base.specs.Subsections.{FirstSubsection, SubsectionsOf, subsection_at}
+use Rattle.wasm_base.specs.Window.{Place, Window, place, window_over}
 use Rattle.wasm_base.specs.declared.fault.NumberKind.TheVariants.{VarU32}
 use Rattle.wasm_encode.specs.Numbers.{unsigned_bytes}
 use Rattle.wasm_encode.specs.ReadsBack.{spot}
 use Rattle.wasm_encode.specs.Sections.{IsReadBack, ItemsBack, content_bytes, items_bytes, placed_items}
+use Rattle.wasm_encode.specs.Subsections.{PartFits, SubsectionsReadBack, subsections_bytes}
 use Rattle.wasm_encode.specs.Subsections.{IsSubsection, ItemBack, ListBack, content_offset, content_window}
 use Rattle.wasm_encode.specs.Subsections.{subsection_bytes}
 use Rattle.wasm_encode.proofs.CopiedExpressions.{bytes_back}
@@ -114,3 +117,20 @@ list_back meaning features offset id encoded placed xs small h back =
       section = section_read meaning features there encoded placed xs back;
       items = section_items meaning features there encoded placed xs back;
     }
+
+-- ---- subsections one after the other
+
+pub subsections_back : {T : Type 0} (meaning : ℕ → Window → Result T FaultAt → Type 0) → SubsectionsReadBack meaning
+subsections_back meaning features offset [] [] fits = (λ h. tt, λ h. refl)
+subsections_back meaning features offset [] (x ∷ xs) fits = (λ h. absurd (let some = h.0 in omega (arith, some)), λ h. absurd h)
+subsections_back meaning features offset (part ∷ parts) [] fits = (λ h. absurd (omega (arith, h)), λ h. absurd h)
+subsections_back {T} meaning features offset (part ∷ parts) (x ∷ xs) fits =
+    let fit = All-head PartFits part parts fits in
+    let after : ℕ = offset + length (subsection_bytes part.0 part.1) in
+    let p : Place = spot features offset (subsection_bytes part.0 part.1 ++ subsections_bytes parts) in
+    let e = (framed features offset part.0 part.1 fit.0 fit.1).read (subsections_bytes parts) in
+    let more = subsections_back meaning features after parts xs (All-tail PartFits part parts fits) in
+    let First = λ (o : Outcome (ℕ × Window)). FirstSubsection meaning p o x (λ q. SubsectionsOf meaning q xs) in (
+      λ h. let first = subst First e h.1 in (first.0, more.0 first.1),
+      λ h. (omega arith, subst First (sym e) (h.0, more.1 h.1)),
+    )

@@ -84,6 +84,11 @@ map_section features offset xs = content_section features offset (λ x. naming_b
 abbrev pub all_given : {X : Type 0} → List X → List (Result X Error)
 all_given xs = map (λ x. Ok x) xs
 
+-- | entries whose indices ascend <Appendix, Name Section, Name Maps>
+-- The indices of entries ascend strictly.
+abbrev pub IsAscending : List Naming → Type 0
+IsAscending xs = AscendsFrom index_of None (all_given xs)
+
 -- | the subsection of a name map is read as exactly its entries, and iterating over it returns them if their indices
 --   ascend [`map_ids`, `MapFits`] <Appendix, Name Section, Name
 --   Maps>
@@ -98,6 +103,6 @@ pub record MapBack (next : Ascending Items → Option (Result Naming Error) → 
       ≡ Ok (direct id (none_given (all_items (map_section features offset xs))))) map_ids
   pub entries : ItemsOf (ReadsAs naming_parts naming_at) (length xs) (place (map_section features offset xs).reader)
       (map as_read xs)
-  pub given : AscendsFrom index_of None (all_given xs) → (given : List (Result Naming Error))
+  pub given : IsAscending xs → (given : List (Result Naming Error))
       → Drains next (none_given (all_items (map_section features offset xs))) given
       → SameItems (ReadsAs naming_parts naming_at) (map item_or_fault given) (map as_read xs)

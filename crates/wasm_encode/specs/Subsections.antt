@@ -1,9 +1,10 @@
 -- The bytes of subsections. Core specification, Appendix, Custom Sections, Name Section, Subsections; tool conventions,
 -- Linking, Linking Metadata Section.
-use Rattle.std.specs.Prelude.{◌≡◌, ℕ, ◌+◌, ◌<◌, List, [], ◌∷◌, ◌++◌, length, map, Ok, All}
+use Rattle.std.specs.Prelude.{◌≡◌, ◌↔◌, ℕ, ◌+◌, ◌<◌, ◌^◌, List, [], ◌∷◌, ◌++◌, length, map, Result, Ok, All}
+use Rattle.wasm_base.specs.FaultAt.{FaultAt}
 use Rattle.wasm_base.specs.Outcome.{Outcome}
 use Rattle.wasm_base.specs.Section.{ItemsOf, Section, as_read, section_after, section_in}
-use Rattle.wasm_base.specs.Subsections.{subsection_at}
+use Rattle.wasm_base.specs.Subsections.{SubsectionsOf, subsection_at}
 use Rattle.wasm_base.specs.Window.{Place, Window, place, window_over}
 use Rattle.wasm_encode.specs.Numbers.{unsigned_bytes}
 use Rattle.wasm_encode.specs.ReadsBack.{spot}
@@ -14,6 +15,10 @@ use Rattle.wasm_encode.specs.Sections.{content_bytes, placed_items}
 -- A section of counted items is such bytes, of their content: subsections are framed as sections are.
 abbrev pub subsection_bytes : (id : ℕ) (content : List ℕ) → List ℕ
 subsection_bytes id content = id ∷ (unsigned_bytes (length content) ++ content)
+
+-- how many bytes a subsection with this content has, whatever its id
+abbrev pub subsection_size : (content : List ℕ) → ℕ
+subsection_size content = 1 + length (unsigned_bytes (length content) ++ content)
 
 -- where the content is of a subsection at an offset
 abbrev pub content_offset : (offset : ℕ) (content : List ℕ) → ℕ
@@ -79,3 +84,30 @@ abbrev pub ListReadsBack : {T : Type 0} → (Place → Outcome T → Type 0) →
     → (encoded : T → List ℕ) → (placed : ℕ → ℕ → T → T) → List T → Type 0
 ListReadsBack meaning is_allowed encoded placed xs = (features offset id : ℕ) → id < 128 → All (is_allowed features) xs
     → ListBack meaning features offset id encoded (placed features) xs
+
+-- subsections one after the other, each an id and a content
+abbrev pub subsections_bytes : List (ℕ × List ℕ) → List ℕ
+subsections_bytes [] = []
+subsections_bytes (part ∷ parts) = subsection_bytes part.0 part.1 ++ subsections_bytes parts
+
+-- The id of a subsection is below 128, and the size of its content is a u32.
+abbrev pub PartFits : ℕ × List ℕ → Type 0
+PartFits part = (part.0 < 128) × (length part.1 < 2 ^ 32)
+
+-- Each of these is what the id and the window of its subsection mean, the first one at this offset.
+abbrev pub MeansEach : {T : Type 0} → (ℕ → Window → Result T FaultAt → Type 0) → (features offset : ℕ)
+    → List (ℕ × List ℕ) → List (Result T FaultAt) → Type 0
+MeansEach meaning features offset [] [] = Unit {0}
+MeansEach meaning features offset [] (x ∷ xs) = ⊥
+MeansEach meaning features offset (part ∷ parts) [] = ⊥
+MeansEach meaning features offset (part ∷ parts) (x ∷ xs) = meaning part.0 (content_window features offset part.1) x
+    × MeansEach meaning features (offset + length (subsection_bytes part.0 part.1)) parts xs
+
+-- | subsections that are written one after the other are read as each of them, in order [`subsections_bytes`,
+--   `MeansEach`, `PartFits`] <Appendix, Name Section, Subsections; tool conventions, Linking>
+-- What the subsections of such bytes come to is what the id and the window of each one mean, in order.
+abbrev pub SubsectionsReadBack : {T : Type 0} → (ℕ → Window → Result T FaultAt → Type 0) → Type 0
+SubsectionsReadBack {T} meaning = (features offset : ℕ) (parts : List (ℕ × List ℕ)) (given : List (Result T FaultAt))
+    → All PartFits parts
+    → SubsectionsOf meaning (spot features offset (subsections_bytes parts)) given
+    ↔ MeansEach meaning features offset parts given

@@ -69,7 +69,7 @@ pub use linking::{linking_arch_reads_back, linking_reads_back};
 pub use lists::{list_len, write_list};
 pub use modules::{Module, Refused, SectionItem, Unfinished};
 pub use names::{name_fits, name_len, write_name};
-pub use namings::{module_name_reads_back, name_map_reads_back};
+pub use namings::{module_name_reads_back, name_map_reads_back, names_ascend};
 pub use number::{signed_len, unsigned_len, write_signed, write_unsigned};
 pub use reloc::{reloc_len, reloc_reads_back, write_reloc};
 pub use sections::{
@@ -77,5 +77,6 @@ pub use sections::{
     write_number_section, write_section,
 };
 pub use subsections::{
-    list_subsection_reads_back, subsection_len, subsection_reads_back, write_subsection,
+    list_subsection_reads_back, subsection_len, subsection_reads_back, subsections_read_back,
+    write_subsection,
 };

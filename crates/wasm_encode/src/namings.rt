@@ -1,8 +1,9 @@
 // Names of the section `name`: entries of name maps, and what its subsections are read as.
 ghost use Rattle.std.specs.Prelude.{◌≡◌, ℕ, ◌+◌, ◌≤◌, ◌<◌, ◌^◌, ◌++◌, ◌↔◌, IsTrue, length, take};
+ghost use Rattle.wasm_base.specs.Ascending.{is_above};
 ghost use Rattle.wasm_custom.specs.Names.{naming_parts};
 ghost use Rattle.wasm_encode.specs.Names.{NameFits};
-ghost use Rattle.wasm_encode.specs.Namings.{HasNotBegun, MapBack, MapFits, ModuleNameBack, indirect_bytes, names_of, naming_bytes};
+ghost use Rattle.wasm_encode.specs.Namings.{HasNotBegun, IsAscending, MapBack, MapFits, ModuleNameBack, indirect_bytes, names_of, naming_bytes};
 
 use crate::encode::Encode;
 use crate::lists::{copied_len, is_list, write_copied};
@@ -142,4 +143,39 @@ pub fn name_map_reads_back<'a>(namings: &[Naming<'a>])
         features offset namings.now }
 {
     list_subsection_reads_back(namings)
+}
+
+// Returns whether an index is above the last one, if there is one.
+fn is_above(last: Option<u32>, index: u32) -> bool
+    ensures { result ≡ is_above last index }
+{
+    match last {
+        Some(last) => index > last,
+        None => true,
+    }
+}
+
+/// Returns whether the indices of entries ascend strictly, as those of a name map must.
+///
+/// A map with other entries can be written, but iterating over it returns an error for each entry whose index is not
+/// above all earlier ones.
+///
+/// ```rattle
+/// let names = [Naming { index: 3, name: "a" }, Naming { index: 5, name: "b" }];
+/// assert!(rt; names_ascend(&names));
+/// ```
+///
+/// (Core specification, Appendix, Custom Sections, Name Section, Name Maps.)
+pub fn names_ascend(namings: &[Naming<'_>]) -> bool
+    // Proved: whether the indices of entries ascend, as those of a name map must
+    ensures { IsTrue result ↔ IsAscending namings.now }
+{
+    let mut last = None;
+    'namings: for naming in namings {
+        if !is_above(last, naming.index) {
+            return false;
+        }
+        last = Some(naming.index);
+    }
+    true
 }

@@ -1,12 +1,14 @@
 // Subsections of the custom sections `name`, `linking` and `dylink.0`.
-ghost use Rattle.std.specs.Prelude.{◌≡◌, ℕ, ◌+◌, ◌≤◌, ◌++◌, drop, length, take};
+ghost use Rattle.std.specs.Prelude.{◌≡◌, ◌+◌, ◌≤◌, ◌++◌, drop, length, take};
 ghost use Rattle.wasm_encode.specs.Sections.{SectionFits};
-ghost use Rattle.wasm_encode.specs.Subsections.{ItemReadsBack, ListReadsBack, subsection_bytes};
+ghost use Rattle.wasm_encode.specs.Subsections.{ItemReadsBack, ListReadsBack, SubsectionsReadBack, subsection_bytes};
+ghost use Rattle.wasm_encode.specs.Subsections.{subsection_size};
 
 use crate::bytes::write_byte;
 use crate::encode::Encode;
 use crate::number::{unsigned_len, write_unsigned};
 use crate::sections::section_reads_back;
+use wasm_base::Subsection;
 
 /// Returns how many bytes `write_subsection` writes of a subsection that is one item, with its id and its size.
 ///
@@ -22,7 +24,7 @@ use crate::sections::section_reads_back;
 pub fn subsection_len<T: Encode>(item: &T) -> usize
     requires { T.is_encodable item.now }
     // Proved: `subsection_len` is how many bytes `write_subsection` writes
-    ensures { result ≡ length (subsection_bytes 0 (T.encoded item.now)) }
+    ensures { result ≡ subsection_size (T.encoded item.now) }
 {
     let size = item.encoded_len();
     1 + unsigned_len(size as u64) + size
@@ -80,3 +82,11 @@ pub fn list_subsection_reads_back<T: Encode>(items: &[T])
 {
     section_reads_back(items)
 }
+
+/// Subsections that were written one after the other are read as each of them, in order, for any kind of subsections.
+/// Does nothing.
+pub fn subsections_read_back<'a, T: Subsection<'a>>()
+    // Proved: the subsections of bytes that were written one after the other, which `Subsections` returns, are what the
+    //   id and the window of each one mean, in order
+    ensures { SubsectionsReadBack T.meaning }
+{}

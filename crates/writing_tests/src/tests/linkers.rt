@@ -6,6 +6,7 @@ use wasm_custom::{
     Comdat, ComdatSymbol, ComdatSymbolKind, DefinedDataSymbol, ExportInfo, ImportInfo, InitFunc,
     MemInfo, RelocationEntry, RelocationType, Segment, SegmentFlags, SymbolFlags, SymbolInfo,
 };
+use wasm_encode::{reloc_len, section_fits, write_reloc};
 
 #[test]
 fn dynamic_linking(rt: HostRuntime) {
@@ -158,4 +159,17 @@ fn symbols_of_data(rt: HostRuntime) {
     encodes(&rt, &data_symbol(imported, None), b"\x01\x10\x01x");
     is_refused(&rt, &data_symbol(weak, None));
     is_refused(&rt, &data_symbol(imported, Some(place)));
+}
+
+#[test]
+fn relocations_of_a_section(rt: HostRuntime) {
+    let entries = [
+        relocation(RelocationType::FunctionIndexLeb, 0),
+        relocation(RelocationType::MemoryAddrSleb, -1),
+    ];
+    assert!(&rt; section_fits(&entries));
+    assert_eq!(&rt; reloc_len(300, &entries), 10);
+    let mut bytes = [0; 10];
+    write_reloc(&mut bytes, 0, 300, &entries);
+    assert_eq!(&rt; &bytes, b"\xac\x02\x02\0\x06\x02\x04\x06\x02\x7f");
 }

@@ -4,22 +4,14 @@ use std::process::Abort;
 use wasm_base::{BinaryReader, FromReader};
 use wasm_custom::{IndirectNaming, Naming};
 use wasm_encode::{
-    Encode, section_fits, section_len, subsection_len, write_section, write_subsection,
+    Encode, list_len, names_ascend, section_fits, subsection_len, write_list, write_subsection,
 };
 
 #[test]
 fn names_and_entries(rt: HostRuntime) {
     encodes(&rt, &"env", b"\x03env");
-    let naming = Naming {
-        index: 5,
-        name: "f",
-    };
-    encodes(&rt, &naming, b"\x05\x01f");
-    let naming = Naming {
-        index: 300,
-        name: "",
-    };
-    encodes(&rt, &naming, b"\xac\x02\0");
+    encodes(&rt, &naming(5, "f"), b"\x05\x01f");
+    encodes(&rt, &naming(300, ""), b"\xac\x02\0");
 }
 
 // An item is written as this subsection.
@@ -38,23 +30,35 @@ fn a_module_name(rt: HostRuntime) {
     is_subsection(&rt, 0, &"app", b"\0\x04\x03app");
 }
 
+// Items are written as this list.
+fn is_list<T: Encode>(rt: &impl Abort, items: &[T], wanted: &[u8]) {
+    assert!(rt; section_fits(items));
+    assert!(rt; wanted.len() < 60);
+    assert_eq!(rt; list_len(items), wanted.len());
+    let mut bytes = [0xaa; 64];
+    let end = write_list(&mut bytes, 3, items);
+    assert_eq!(rt; &bytes[3..end], wanted);
+    assert!(rt; bytes[2] == 0xaa && bytes[end] == 0xaa);
+}
+
+// An entry of a name map.
+fn naming(index: u32, name: &str) -> Naming<'_> {
+    Naming { index, name }
+}
+
 #[test]
-fn function_names(rt: HostRuntime) {
-    let names = [
-        Naming {
-            index: 0,
-            name: "a",
-        },
-        Naming {
-            index: 300,
-            name: "bc",
-        },
-    ];
-    assert!(&rt; section_fits(&names));
-    assert_eq!(&rt; section_len(&names), 11);
-    let mut bytes = [0; 11];
-    write_section(&mut bytes, 0, 1, &names);
-    assert_eq!(&rt; &bytes, b"\x01\x09\x02\0\x01a\xac\x02\x02bc");
+fn name_maps(rt: HostRuntime) {
+    let names = [naming(0, "a"), naming(300, "bc")];
+    is_list(&rt, &names, b"\x02\0\x01a\xac\x02\x02bc");
+    let none: [Naming<'_>; 0] = [];
+    is_list(&rt, &none, b"\0");
+}
+
+#[test]
+fn names_that_ascend(rt: HostRuntime) {
+    assert!(&rt; names_ascend(&[naming(0, "a"), naming(1, "b"), naming(300, "c")]));
+    assert!(&rt; !names_ascend(&[naming(3, "a"), naming(3, "b")]));
+    assert!(&rt; !names_ascend(&[naming(0, "a"), naming(7, "b"), naming(6, "c")]));
 }
 
 // The entry that these bytes begin with.
