@@ -12,7 +12,7 @@ use Rattle.wasm_custom.specs.declared.dylink0.ExportInfo.{ExportInfo}
 use Rattle.wasm_custom.specs.declared.dylink0.ImportInfo.{ImportInfo}
 use Rattle.wasm_custom.specs.declared.dylink0.MemInfo.{MemInfo}
 use Rattle.wasm_encode.specs.Dylink0.{ArchBack, ExportInfoFits, ExportInfosBack, ExportInfosFit, ImportInfoFits, ImportInfosBack}
-use Rattle.wasm_encode.specs.Dylink0.{ImportInfosFit, MemInfoBack, MemInfoFits, NamesBack, NamesFit, names_content}
+use Rattle.wasm_encode.specs.Dylink0.{ImportInfosFit, MemInfoBack, MemInfoFits, LibraryNamesBack, LibraryNamesFit, names_content}
 use Rattle.wasm_encode.specs.Dylink0.{export_info_bytes, import_info_bytes, mem_info_bytes}
 use Rattle.wasm_encode.specs.Names.{NameFits, name_bytes}
 use Rattle.wasm_encode.specs.Numbers.{unsigned_bytes}
@@ -107,7 +107,7 @@ mem_info_back x features offset h = record {
   read = rw (window_read mem_info_at features offset (mem_info_bytes x) x (reads_mem_info x features h)) refl;
 }
 
-pub names_back : (names : List (Bor (List ℕ))) (features offset : ℕ) → NamesFit names → NamesBack features offset names
+pub names_back : (names : List (Bor (List ℕ))) (features offset : ℕ) → LibraryNamesFit names → LibraryNamesBack features offset names
 unfolding dylink_subsection_in
 names_back names features offset h =
     let content : List ℕ = names_content names in

@@ -14,7 +14,7 @@ use Rattle.wasm_custom.specs.declared.reloc.RelocationType.{RelocationType}
 use Rattle.wasm_custom.specs.declared.reloc.RelocationType.TheVariants as Types
 use Rattle.wasm_encode.specs.Numbers.{unsigned_bytes}
 use Rattle.wasm_encode.specs.ReadsBack.{Encodes}
-use Rattle.wasm_encode.specs.Reloc.{AddendFits, RelocBack, RelocationFits, addend_bytes, reloc_entries, relocation_bytes}
+use Rattle.wasm_encode.specs.Reloc.{AddendFits, RelocationsBack, RelocationFits, addend_bytes, reloc_entries, relocation_bytes}
 use Rattle.wasm_encode.specs.Sections.{ItemsBack, content_bytes, placed_items}
 use Rattle.wasm_encode.proofs.ImportsBack.{reads_u32}
 use Rattle.wasm_encode.proofs.NumbersBack.{signed_at_spot, unsigned_at_spot}
@@ -91,7 +91,7 @@ same_relocations offset (x ∷ xs) = ap (λ (ys : List RelocationEntry). x ∷ y
 pub reloc_back : (index : ℕ) (xs : List RelocationEntry) (features offset : ℕ) → index < 2 ^ 32
     → ItemsBack (ReadsAs (λ (x : RelocationEntry). x) relocation_at) features (offset + length (unsigned_bytes index)) relocation_bytes
     (λ (o : ℕ) x. x) xs
-    → RelocBack features offset index xs
+    → RelocationsBack features offset index xs
 unfolding reloc_section_in
 reloc_back index xs features offset h back =
     let there : ℕ = offset + length (unsigned_bytes index) in

@@ -48,8 +48,8 @@ pub record ImportInfoFits (x : ImportInfoParts) : Type 0 where
 -- ---- subsections
 
 -- | a subsection with this id and this content is read as its id and exactly these parts; those of memory, of names, of
---   exports, of imports, and of an architecture [`MemInfoBack`, `NamesBack`, `ExportInfosBack`, `ImportInfosBack`,
---   `ArchBack`; `NamesFit`, `ExportInfosFit`, `ImportInfosFit`] <tool conventions, Dynamic Linking>
+--   exports, of imports, and of an architecture [`MemInfoBack`, `LibraryNamesBack`, `ExportInfosBack`, `ImportInfosBack`,
+--   `ArchBack`; `LibraryNamesFit`, `ExportInfosFit`, `ImportInfosFit`] <tool conventions, Dynamic Linking>
 -- A subsection with this id and this content is read as its id and a window, and the window as these parts.
 pub record DylinkBack (features offset id : ℕ) (content : List ℕ) (parts : DylinkParts) : Type 0 where
   pub frame : IsSubsection features offset id content
@@ -62,15 +62,15 @@ MemInfoBack features offset x = DylinkBack features offset 1 (mem_info_bytes x) 
 abbrev pub names_content : List (Bor (List ℕ)) → List ℕ
 names_content names = content_bytes (λ name. name_bytes name.now) names
 
-abbrev pub NamesFit : List (Bor (List ℕ)) → Type 0
-NamesFit names = SectionFits (λ name. name_bytes name.now) (λ name. NameFits name.now) names
+abbrev pub LibraryNamesFit : List (Bor (List ℕ)) → Type 0
+LibraryNamesFit names = SectionFits (λ name. name_bytes name.now) (λ name. NameFits name.now) names
 
-abbrev pub NamesBackWith : (id : ℕ) → (features offset : ℕ) → List (Bor (List ℕ)) → Type 0
-NamesBackWith id features offset names =
+abbrev pub LibraryNamesBackWith : (id : ℕ) → (features offset : ℕ) → List (Bor (List ℕ)) → Type 0
+LibraryNamesBackWith id features offset names =
     DylinkBack features offset id (names_content names) (texts id (map (λ name. name.now) names))
 
-abbrev pub NamesBack : (features offset : ℕ) → List (Bor (List ℕ)) → Type 0
-NamesBack features offset names = NamesBackWith 2 features offset names × NamesBackWith 5 features offset names
+abbrev pub LibraryNamesBack : (features offset : ℕ) → List (Bor (List ℕ)) → Type 0
+LibraryNamesBack features offset names = LibraryNamesBackWith 2 features offset names × LibraryNamesBackWith 5 features offset names
 
 abbrev pub ExportInfosFit : List ExportInfo → Type 0
 ExportInfosFit infos =

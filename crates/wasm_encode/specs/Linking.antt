@@ -76,7 +76,7 @@ list_ids = 5 ∷ 6 ∷ 7 ∷ 8 ∷ []
 -- | a subsection of `linking` that is a list is read as its id and exactly its items; that of an architecture as its
 --   name [`LinkingReadsBack`, `list_ids`; `ArchBack`] <tool conventions, Linking>
 -- A subsection that is a list is read as exactly these items, and for each id of a list as this list.
-pub record LinkingBack {T : Type 0} (meaning : Place → Outcome T → Type 0) (features offset : ℕ) (encoded : T → List ℕ)
+pub record LinkingListBack {T : Type 0} (meaning : Place → Outcome T → Type 0) (features offset : ℕ) (encoded : T → List ℕ)
     (placed : ℕ → T → T) (xs : List T) : Type 0 where
   pub list : (id : ℕ) → id < 128 → ListBack meaning features offset id encoded placed xs
   pub read : All (λ id. linking_subsection_in id (content_window features offset (content_bytes encoded xs))
@@ -86,7 +86,7 @@ pub record LinkingBack {T : Type 0} (meaning : Place → Outcome T → Type 0) (
 abbrev pub LinkingReadsBack : {T : Type 0} → (Place → Outcome T → Type 0) → (is_allowed : ℕ → T → Type 0)
     → (encoded : T → List ℕ) → (placed : ℕ → ℕ → T → T) → List T → Type 0
 LinkingReadsBack meaning is_allowed encoded placed xs = (features offset : ℕ) → All (is_allowed features) xs
-    → LinkingBack meaning features offset encoded (placed features) xs
+    → LinkingListBack meaning features offset encoded (placed features) xs
 
 -- The subsection of an architecture is read as its name.
 pub record ArchBack (features offset : ℕ) (name : List ℕ) : Type 0 where

@@ -56,7 +56,7 @@ reloc_entries features offset section xs = section_after
 -- | the relocations of a section, at an offset, are read as its index and exactly these relocations [`reloc_bytes`,
 --   `RelocFits`] <tool conventions, Linking, Relocation Sections>
 -- The relocations of a section are read as its index and a list, and that as exactly these relocations.
-pub record RelocBack (features offset : ℕ) (index : ℕ) (xs : List RelocationEntry) : Type 0 where
+pub record RelocationsBack (features offset : ℕ) (index : ℕ) (xs : List RelocationEntry) : Type 0 where
   pub section : reloc_section_in (reloc_window features offset index xs)
       ≡ Ok (record {
         section = index;

@@ -2,7 +2,7 @@
 ghost use Rattle.std.specs.Prelude.{◌≡◌, ℕ, ◌+◌, ◌≤◌, ◌<◌, ◌^◌, ◌++◌, ◌↔◌, IsTrue, length, take};
 ghost use Rattle.wasm_custom.specs.Dylink0.{export_info_parts, import_info_parts};
 ghost use Rattle.wasm_encode.specs.Dylink0.{ArchBack, ExportInfosBack, ExportInfosFit, ImportInfosBack, ImportInfosFit};
-ghost use Rattle.wasm_encode.specs.Dylink0.{MemInfoBack, MemInfoFits, NamesBack, NamesFit, export_info_bytes};
+ghost use Rattle.wasm_encode.specs.Dylink0.{MemInfoBack, MemInfoFits, LibraryNamesBack, LibraryNamesFit, export_info_bytes};
 ghost use Rattle.wasm_encode.specs.Dylink0.{import_info_bytes};
 ghost use Rattle.wasm_encode.specs.Names.{NameFits};
 
@@ -165,8 +165,8 @@ pub fn mem_info_reads_back(info: &MemInfo)
 /// A subsection of names of libraries (id 2) or of directories to search (id 5), which `write_section` writes, is read
 /// as exactly these names. Does nothing.
 pub fn library_names_read_back(names: &[&str])
-    requires { NamesFit names.now }
-    ensures { (features offset : ℕ) → NamesBack features offset names.now }
+    requires { LibraryNamesFit names.now }
+    ensures { (features offset : ℕ) → LibraryNamesBack features offset names.now }
 {
     let _names = names;
 }

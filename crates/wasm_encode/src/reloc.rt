@@ -1,7 +1,7 @@
 // Relocations.
 ghost use Rattle.std.specs.Prelude.{◌≡◌, ℕ, ◌+◌, ◌<◌, ◌^◌, ◌≤◌, ◌++◌, ◌↔◌, IsTrue, drop, length, take};
 ghost use Rattle.wasm_custom.specs.Reloc.{addend_of, number_of};
-ghost use Rattle.wasm_encode.specs.Reloc.{AddendFits, RelocBack, RelocFits, addend_bytes, reloc_bytes};
+ghost use Rattle.wasm_encode.specs.Reloc.{AddendFits, RelocationsBack, RelocFits, addend_bytes, reloc_bytes};
 
 use crate::bytes::write_byte;
 use crate::encode::Encode;
@@ -157,7 +157,7 @@ pub fn reloc_reads_back(section: u32, entries: &[RelocationEntry])
     requires { RelocFits entries.now }
     // Proved: the relocations of a section that were written are read as its index and exactly the given relocations,
     //   as `RelocSectionReader` reads them
-    ensures { (features offset : ℕ) → RelocBack features offset section entries.now }
+    ensures { (features offset : ℕ) → RelocationsBack features offset section entries.now }
 {
     let _section = section;
     section_reads_back(entries)
