@@ -48,8 +48,9 @@ pub record ImportInfoFits (x : ImportInfoParts) : Type 0 where
 -- ---- subsections
 
 -- | a subsection with this id and this content is read as its id and exactly these parts; those of memory, of names, of
---   exports, of imports, and of an architecture [`MemInfoBack`, `LibraryNamesBack`, `ExportInfosBack`, `ImportInfosBack`,
---   `ArchBack`; `LibraryNamesFit`, `ExportInfosFit`, `ImportInfosFit`] <tool conventions, Dynamic Linking>
+--   exports, of imports, and of an architecture [`MemInfoBack`, `LibraryNamesBack`, `ExportInfosBack`,
+--   `ImportInfosBack`, `ArchBack`; `LibraryNamesFit`, `ExportInfosFit`, `ImportInfosFit`] <tool conventions, Dynamic
+--   Linking>
 -- A subsection with this id and this content is read as its id and a window, and the window as these parts.
 pub record DylinkBack (features offset id : ℕ) (content : List ℕ) (parts : DylinkParts) : Type 0 where
   pub frame : IsSubsection features offset id content
@@ -70,7 +71,8 @@ LibraryNamesBackWith id features offset names =
     DylinkBack features offset id (names_content names) (texts id (map (λ name. name.now) names))
 
 abbrev pub LibraryNamesBack : (features offset : ℕ) → List (Bor (List ℕ)) → Type 0
-LibraryNamesBack features offset names = LibraryNamesBackWith 2 features offset names × LibraryNamesBackWith 5 features offset names
+LibraryNamesBack features offset names =
+    LibraryNamesBackWith 2 features offset names × LibraryNamesBackWith 5 features offset names
 
 abbrev pub ExportInfosFit : List ExportInfo → Type 0
 ExportInfosFit infos =

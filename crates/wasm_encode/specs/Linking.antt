@@ -76,8 +76,8 @@ list_ids = 5 ∷ 6 ∷ 7 ∷ 8 ∷ []
 -- | a subsection of `linking` that is a list is read as its id and exactly its items; that of an architecture as its
 --   name [`LinkingReadsBack`, `list_ids`; `ArchBack`] <tool conventions, Linking>
 -- A subsection that is a list is read as exactly these items, and for each id of a list as this list.
-pub record LinkingListBack {T : Type 0} (meaning : Place → Outcome T → Type 0) (features offset : ℕ) (encoded : T → List ℕ)
-    (placed : ℕ → T → T) (xs : List T) : Type 0 where
+pub record LinkingListBack {T : Type 0} (meaning : Place → Outcome T → Type 0) (features offset : ℕ)
+    (encoded : T → List ℕ) (placed : ℕ → T → T) (xs : List T) : Type 0 where
   pub list : (id : ℕ) → id < 128 → ListBack meaning features offset id encoded placed xs
   pub read : All (λ id. linking_subsection_in id (content_window features offset (content_bytes encoded xs))
       ≡ Ok (listed id (content_section features offset encoded xs))) list_ids
