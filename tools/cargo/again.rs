@@ -1,6 +1,6 @@
 //! Modules that are read, and written again by `encode`.
 use pulleynavy_program::encode::{Module, SectionItem};
-use pulleynavy_program::parser::{Encoding, Error, FunctionBody, Import, Imports, Parser, Payload};
+use pulleynavy_program::parser::{Encoding, Error, FunctionBody, Parser, Payload};
 use pulleynavy_program::std::alloc::Global;
 
 /// Why a stream is not written again.
@@ -8,7 +8,7 @@ use pulleynavy_program::std::alloc::Global;
 pub enum Left {
     /// It is malformed, or an item of it is.
     Malformed(Error),
-    /// It has what the writer does not write: a component, a section with an unknown id, a bundle of imports.
+    /// It has what the writer does not write: a component, or a section with an unknown id.
     Other(&'static str),
     /// The writer refused a section that was read.
     Refused(String),
@@ -33,13 +33,6 @@ impl<'a> Again<'a> {
         self.module.section(&items).map_err(|refused| Left::Refused(format!("{refused:?}")))
     }
 
-    fn single(import: Result<Imports<'a>, Error>) -> Result<Import<'a>, Left> {
-        match import? {
-            Imports::Single(_, import) => Ok(import),
-            _ => Err(Left::Other("a bundle of imports")),
-        }
-    }
-
     /// Adds the code section once all bodies have come.
     fn add_code(&mut self) -> Result<(), Left> {
         if self.bodies.len() < self.announced as usize {
@@ -55,10 +48,7 @@ impl<'a> Again<'a> {
             Payload::Version { .. } => Err(Left::Other("a component")),
             Payload::UnknownSection { .. } => Err(Left::Other("an unknown section")),
             Payload::TypeSection(section) => self.add(section.into_iter_in(Global)),
-            Payload::ImportSection(section) => {
-                let imports = section.into_iter().map(Self::single).collect::<Result<Vec<_>, Left>>()?;
-                self.add(imports.into_iter().map(Ok))
-            }
+            Payload::ImportSection(section) => self.add(section.into_iter()),
             Payload::FunctionSection(section) => self.add(section.into_iter()),
             Payload::TableSection(section) => self.add(section.into_iter()),
             Payload::MemorySection(section) => self.add(section.into_iter()),
