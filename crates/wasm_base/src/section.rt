@@ -140,8 +140,8 @@ impl<'a, T> SectionLimited<'a, T> {
     /// Returns a reader over the items, after the count. `after_count` of it is this section again.
     ///
     /// ```rattle
-    /// let numbers = SectionLimited::<u32>::new(BinaryReader::new(&[2, 5, 7], 100))?;
-    /// assert_eq!(rt; numbers.get_binary_reader().remaining_buffer(), &[5, 7]);
+    /// let all = SectionLimited::<u32>::new(BinaryReader::new(&[2, 5, 7], 0))?;
+    /// assert_eq!(rt; all.get_binary_reader().remaining_buffer(), [5, 7].as_slice());
     /// ```
     pub fn get_binary_reader(&self) -> BinaryReader<'a>
         // Proved: `get_binary_reader` of a section is its window after the count
