@@ -66,7 +66,7 @@ reads_list view reading encoded Such features bound each xs h =
     (reads_items view reading encoded Such features each xs h.each)
 
 -- a list of items that are read as they are
-reads_plain_list : {A : Type 0} (reading : Place → Outcome A) (encoded : A → List ℕ) (Such : A → Type 0) (features bound : ℕ)
+pub reads_plain_list : {A : Type 0} (reading : Place → Outcome A) (encoded : A → List ℕ) (Such : A → Type 0) (features bound : ℕ)
     → ((x : A) → Such x → Reads reading features x (encoded x)) → (xs : List A) → ListFits bound encoded Such xs
     → Reads (list_at reading) features xs (content_bytes encoded xs)
 reads_plain_list {A} reading encoded Such features bound each xs h =

@@ -37,3 +37,4 @@ pub mod RelocBack
 pub mod LinkingBack
 pub mod SymbolsBack
 pub mod NameMapsBack
+pub mod CoreDumpsBack

@@ -30,13 +30,13 @@ four_bits n h = omega arith
 eight_bits : (n : ℕ) → n < 2 ^ 64 → of_four (take 4 (to_le_bytes w64 n)) + 2 ^ 32 * of_four (drop 4 (to_le_bytes w64 n)) ≡ n
 eight_bits n h = omega arith
 
-float_32 : (n features offset : ℕ) (later : List ℕ) → n < 2 ^ 32
+pub float_32 : (n features offset : ℕ) (later : List ℕ) → n < 2 ^ 32
     → u32_at (spot features offset (to_le_bytes w32 n ++ later)) ≡ Ok (n, spot features (offset + 4) later)
 unfolding u32_at
 float_32 n features offset later h = rw (bytes_back features offset (to_le_bytes w32 n) later) (
     ap (λ (m : ℕ). Ok (m, spot features (offset + 4) later)) (four_bits n h))
 
-float_64 : (n features offset : ℕ) (later : List ℕ) → n < 2 ^ 64
+pub float_64 : (n features offset : ℕ) (later : List ℕ) → n < 2 ^ 64
     → u64_at (spot features offset (to_le_bytes w64 n ++ later)) ≡ Ok (n, spot features (offset + 8) later)
 unfolding u64_at
 float_64 n features offset later h = rw (bytes_back features offset (to_le_bytes w64 n) later) (

@@ -32,3 +32,4 @@ pub mod Subsections
 pub mod Reloc
 pub mod Linking
 pub mod Symbols
+pub mod CoreDumps

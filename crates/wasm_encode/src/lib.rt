@@ -3,6 +3,8 @@
 //! * `Encode` is a type whose values can be written: each of its items is read back as itself.
 //! * `section_len` and `write_section` write a section of counted items, `write_number_section` one that is a number,
 //!   `write_custom` a custom section.
+//! * For the data of custom sections, `write_list` writes counted items, `write_section` and `write_subsection` write
+//!   subsections, and `write_reloc` relocations. Their items implement `Encode` too.
 //! * `Module` is a module that is built section by section: what it ends as is accepted, with exactly these sections.
 //!
 //! Only `Module` allocates. Each item has one spelling, with numbers as short as possible. First ask whether the items fit
@@ -22,6 +24,7 @@ mod bundles;
 mod bytes;
 mod code;
 mod copied;
+mod core_dumps;
 mod custom;
 mod data;
 mod dylink0;

@@ -1,5 +1,6 @@
 // Bytes that were worked out by hand from the standard's grammar. That they are read back is proved.
 mod bundles;
+mod core_dumps;
 mod elements;
 mod expressions;
 mod groups;
