@@ -28,7 +28,6 @@ pub mod Growing
 pub mod Adding
 pub mod CustomBack
 pub mod NamingsBack
-pub mod TargetFeaturesBack
 pub mod ProducersBack
 pub mod BranchHintsBack
 pub mod Dylink0Back

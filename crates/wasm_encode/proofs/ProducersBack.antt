@@ -1,22 +1,26 @@
 -- The bytes of producers are read as the producers.
-use Rattle.std.proofs.Common.{◌≡◌, ℕ, ◌+◌, true, List, ◌++◌, None, Ok, append_assoc, arith, length, length-append, refl}
+use Rattle.std.proofs.Common.{◌≡◌, ℕ, ◌+◌, true, List, ◌++◌, None, Ok, append_assoc, arith, length, length-append}
+use Rattle.std.proofs.Common.{refl, [], ◌∷◌}
 use Rattle.wasm_base.specs.Item.{ReadsAs}
-use Rattle.wasm_base.specs.Name.{text_at}
+use Rattle.wasm_base.specs.Name.{text_at, byte_at}
 use Rattle.wasm_base.specs.Outcome.{◌>>=◌}
 use Rattle.wasm_base.specs.Skip.{skipped_name_at}
-use Rattle.wasm_custom.specs.Producers.{ValueParts, field_at, field_name_at, field_parts, field_value_at, is_field_name}
-use Rattle.wasm_custom.specs.Producers.{skipped_value_at, value_parts}
-use Rattle.wasm_custom.specs.declared.producers.ProducersField.{ProducersField}
-use Rattle.wasm_custom.specs.declared.producers.ProducersFieldValue.{ProducersFieldValue}
 use Rattle.wasm_encode.specs.Lists.{list_bytes}
 use Rattle.wasm_encode.specs.Names.{name_bytes}
 use Rattle.wasm_encode.specs.Producers.{FieldFits, ValueFits, field_bytes, field_placed, value_bytes}
 use Rattle.wasm_encode.specs.ReadsBack.{Encodes}
+use Rattle.wasm_encode.specs.TargetFeatures.{FeatureFits, feature_bytes}
 use Rattle.wasm_encode.specs.Texts.{TextFits}
 use Rattle.wasm_encode.proofs.ListsBack.{copies_name, list_back}
 use Rattle.wasm_encode.proofs.Moves.{Copies, in_turn}
-use Rattle.wasm_encode.proofs.Readings.{Reads, encodes_so, reads_as, reads_then, same_spot}
 use Rattle.wasm_encode.proofs.NamesBack.{reads_text}
+use Rattle.wasm_encode.proofs.Readings.{Reads, encodes_so, reads_as, reads_then, same_spot, reads_byte}
+use Rattle.wasm_custom.specs.Producers.{ValueParts, field_at, field_name_at, field_parts, field_value_at}
+use Rattle.wasm_custom.specs.Producers.{is_field_name, skipped_value_at, value_parts}
+use Rattle.wasm_custom.specs.TargetFeatures.{FeatureParts, feature_parts, target_feature_at}
+use Rattle.wasm_custom.specs.declared.producers.ProducersField.{ProducersField}
+use Rattle.wasm_custom.specs.declared.producers.ProducersFieldValue.{ProducersFieldValue}
+use Rattle.wasm_custom.specs.declared.target_features.TargetFeature.{TargetFeature}
 
 reads_value : (x : ValueParts) (features : ℕ) → ValueFits x → Reads field_value_at features x (value_bytes x)
 unfolding field_value_at value_bytes
@@ -58,3 +62,19 @@ field_encodes x features h = record {
       (same_spot features (there + length values) (offset + length (name ++ values)) (field_parts (field_placed features offset x))
       later e);
 }
+
+-- ---- target features
+
+reads_feature : (x : FeatureParts) (features : ℕ) → FeatureFits x → Reads target_feature_at features x (feature_bytes x)
+unfolding target_feature_at feature_bytes
+reads_feature x features h =
+    reads_then byte_at
+    (λ prefix p. text_at None p >>= λ name. Ok (record { prefix = prefix; name = name.0 }, name.1))
+    features x.prefix x (x.prefix ∷ []) (name_bytes x.name) (reads_byte features x.prefix)
+    (reads_as (text_at None) (λ name. record { prefix = x.prefix; name = name }) features x.name (name_bytes x.name)
+    (reads_text x.name features h.name))
+
+pub feature_encodes : (x : TargetFeature) (features : ℕ) → FeatureFits (feature_parts x)
+    → Encodes (ReadsAs feature_parts target_feature_at) features (λ (offset : ℕ). x) (feature_bytes (feature_parts x))
+feature_encodes x features h =
+    encodes_so feature_parts target_feature_at features x (feature_bytes (feature_parts x)) (reads_feature (feature_parts x) features h)

@@ -1,4 +1,4 @@
-use Rattle.wasm_encode.proofs.TargetFeaturesBack.{feature_encodes}
+use Rattle.wasm_encode.proofs.ProducersBack.{feature_encodes}
 use Rattle.wasm_encode.proofs.target_features.TargetFeatureEncode.reads_back.Goals as goal
 
 pub returns : goal.returns
