@@ -23,8 +23,8 @@
 //!
 //! # Panics
 //!
-//! An item that has no bytes: a name of more than 100,000 bytes, an expression without its `end`, a page size of 2^64 bytes or more, a heap type that is
-//! shared, exact or of continuations, or a list of 2^30 bytes or more in a type.
+//! An item that has no bytes: a name of more than 100,000 bytes, an expression that is raw bytes and isn't one, a page size of 2^64 bytes or more, or a heap
+//! type that is shared, exact or of continuations.
 use crate::proved::encode;
 use alloc::borrow::Cow;
 use alloc::vec::Vec;
